@@ -48,11 +48,12 @@ gave_few (Some xs) (Some ys) bytes count is gave =
 ok_not_err : {X E : Type 0} {x : X} {e : E} {r : Result X E} → r ≡ Ok x → r ≡ Err e → ⊥
 ok_not_err is other = absurd cc
 
-same_ok : {X E : Type 0} (x y : X) → Ok {E = E} x ≡ Ok y → x ≡ y
-same_ok {X} {E} x y is = ap (ok_or_else x) is where
-  abbrev ok_or_else : X → Result X E → X
-  ok_or_else other (Ok one) = one
-  ok_or_else other (Err fault) = other
+abbrev ok_or_else : {X E : Type 0} → X → Result X E → X
+ok_or_else other (Ok one) = one
+ok_or_else other (Err fault) = other
+
+same_ok : {X E : Type 0} (x y : X) → ◌≡◌ {A = Result X E} (Ok x) (Ok y) → x ≡ y
+same_ok x y is = ap (ok_or_else x) is
 
 not_refused : (answer : Result Reply Refusal) (refusal : Refusal) → is_accepted answer ≡ true → answer ≡ Err refusal → ⊥
 not_refused (Err fault) refusal accepted is = absurd cc
@@ -88,8 +89,8 @@ module _ (status : ℕ) where
           proposal_done (proposal asked rules t) can.office can.not_past
           (subst (λ (r : Configuration). is_accepted (proposed (proposal asked r t) can.office).1 ≡ true) same can.accepted) told
       said_done (Err faults.TooLong) says told =
-          let few = gave_few input.stream input.left bytes (most_configuration_bytes + 1) tells says in
-          absurd (omega (arith, few, can.short))
+          let few = gave_few input.stream input.left bytes says.0 tells says.2 in
+          absurd (omega (arith, few, can.short, says.1))
       said_done (Err (faults.Refused fault)) says told = absurd (ok_not_err (is_all says.0 says.1) says.2)
       said_done (Err faults.ReadFault) says told = absurd (three told.0)
       said_done (Err faults.NoMemory) says told = inr told.status_is

@@ -9,6 +9,8 @@ use Rattle.rules_core.specs.Configurations.{Configuration}
 use Rattle.command_line.specs.declared.line.ForecastAsked.{ForecastAsked}
 use Rattle.desk_core.specs.Calls.{moment_after}
 use Rattle.forecast.specs.Forecasts.{Proposal, Outlook, proposed}
+use Rattle.forecast.specs.declared.fault.ForecastFault.{ForecastFault}
+use Rattle.forecast.specs.declared.fault.ForecastFault.TheVariants as begins
 use Rattle.forecast.specs.Telling.{ForecastView, Foretells, Begins}
 use Rattle.forecast_text.specs.Tables.{forecast_text}
 use Rattle.http_front.specs.declared.replies.Replies as sinks
@@ -18,7 +20,7 @@ use Rattle.office_commands.specs.Lines.{IsForecastExit}
 use Rattle.office_commands.specs.Running.{IsPutOut, RunsOut}
 use Rattle.office_commands.specs.Configuring.{SaysRules}
 use Rattle.office_commands.specs.declared.configuration.ConfigurationFault.{ConfigurationFault}
-use Rattle.office_commands.specs.Forecasting.{proposal, months_of, IsForetoldExit, IsRefusalNumber, RefusesForecast, TellsProposal, TellsFault, TellsSaid, ForecastsAfter}
+use Rattle.office_commands.specs.Forecasting.{proposal, months_of, IsForetoldExit, TellsFailure, TellsProposal, TellsFault, TellsSaid, ForecastsAfter}
 
 -- ---- a proposal
 
@@ -35,15 +37,12 @@ module _ {W : Type 0} (w : sinks.Ghosts W) (asked : Proposal) (office : Office) 
       (λ out. inr (inr out))
       (tells begins.0 begins.2)
 
-  pub past : asked.until < asked.from → RefusesForecast w 140 old new status → TellsProposal w asked office old new status
-  past before refuses = inl (before, refuses)
-
-  pub refused : (refusal : Refusal) (number : ℕ) → (asked.from ≤ asked.until) × ((proposed asked office).1 ≡ Err refusal) → IsRefusalNumber refusal number
-      → RefusesForecast w number old new status → TellsProposal w asked office old new status
-  refused refusal number is numbered refuses = inr (inl (is.0, inl (refusal, is.1, number, numbered, refuses)))
-
-  pub lacks : RunsOut w old new status → TellsProposal w asked office old new status
-  lacks out = inr (inr out)
+  pub failed : (fault : ForecastFault) → ((day : ℕ) → fault ≡ begins.PastDay day → asked.until < asked.from)
+      → ((refusal : Refusal) → fault ≡ begins.Refused refusal → (asked.from ≤ asked.until) × ((proposed asked office).1 ≡ Err refusal))
+      → TellsFailure w fault old new status → TellsProposal w asked office old new status
+  failed (begins.PastDay t) past refused told = inl (past t refl, told)
+  failed (begins.Refused refusal) past refused told = inr (inl ((refused refusal refl).0, inl (refusal, (refused refusal refl).1, told)))
+  failed begins.NoMemory past refused told = inr (inr told)
 
 -- ---- what the input says
 

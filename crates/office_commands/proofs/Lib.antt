@@ -6,4 +6,5 @@ pub mod Foretold
 pub mod MadeSo
 pub mod MonthTold
 pub mod Refusing
+pub mod RulesSaid
 pub mod Said

@@ -1,5 +1,5 @@
 -- What the input says as a lifecycle configuration.
-use Rattle.std.specs.Prelude.{◌≡◌, ◌≤◌, ◌+◌, ℕ, List, length, Result, Ok, Err}
+use Rattle.std.specs.Prelude.{◌≡◌, ◌≤◌, ◌<◌, ℕ, List, length, Result, Ok, Err}
 use Rattle.std.specs.Io.KnownBytes.{Consumes, IsAtEnd}
 use Rattle.rules_core.specs.Configurations.{Configuration}
 use Rattle.rules_json.specs.Reading.{rules_of}
@@ -20,9 +20,9 @@ pub record IsWholeInput (input : StreamEnds) (bytes : List ℕ) : Type 0 where
   pub at_end : IsAtEnd input.left
   pub short : length bytes ≤ most_configuration_bytes
 
--- the input gave one byte more than that
+-- the input gave more bytes than that
 abbrev pub IsTooLong : StreamEnds → Type 0
-IsTooLong input = GaveBytes input.stream input.left (most_configuration_bytes + 1)
+IsTooLong input = (count : ℕ) × (most_configuration_bytes < count) × GaveBytes input.stream input.left count
 
 -- the whole input is read as a configuration, or as none for this reason
 abbrev pub IsReadSo : StreamEnds → Result Configuration RulesFault → Type 0

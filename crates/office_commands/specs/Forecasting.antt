@@ -17,6 +17,8 @@ use Rattle.desk_core.specs.declared.clock.Clock as clocks
 use Rattle.desk_core.specs.Calls.{moment_after}
 use Rattle.desk_core.specs.Histories.{HasAcceptedHistory}
 use Rattle.forecast.specs.Forecasts.{Proposal, Outlook, proposed, IsForecast}
+use Rattle.forecast.specs.declared.fault.ForecastFault.{ForecastFault}
+use Rattle.forecast.specs.declared.fault.ForecastFault.TheVariants as begins
 use Rattle.forecast_text.specs.Tables.{MonthSpan, forecast_text}
 use Rattle.http_front.specs.declared.replies.Replies as sinks
 use Rattle.http_front.specs.Counts.{StreamEnds}
@@ -56,6 +58,12 @@ IsRefusalNumber NoSuchBucket number = number ≡ 81
 IsRefusalNumber (Full what limit) number = number ≡ 90
 IsRefusalNumber other number = ⊥
 
+-- a forecast is not begun, where the office refuses it for one of those
+abbrev pub MayFail : ForecastFault → Type 0
+MayFail (begins.PastDay t) = Unit {0}
+MayFail (begins.Refused refusal) = MayRefuse refusal
+MayFail begins.NoMemory = Unit {0}
+
 -- ---- what is said
 
 module _ {W : Type 0} (w : sinks.Ghosts W) where
@@ -66,6 +74,12 @@ module _ {W : Type 0} (w : sinks.Ghosts W) where
   -- the office refuses the configuration
   abbrev pub RefusesRules : Refusal → W → W → ℕ → Type 0
   RefusesRules refusal old new status = (number : ℕ) × IsRefusalNumber refusal number × RefusesForecast number old new status
+
+  -- what is told of a forecast that is not begun
+  abbrev pub TellsFailure : ForecastFault → W → W → ℕ → Type 0
+  TellsFailure (begins.PastDay t) old new status = RefusesForecast 140 old new status
+  TellsFailure (begins.Refused refusal) old new status = RefusesRules refusal old new status
+  TellsFailure begins.NoMemory old new status = RunsOut w old new status
 
   -- What is told of a configuration that the office refuses, and of one that it takes: its forecast is printed.
   abbrev pub TellsAnswer : Proposal → Office → W → W → ℕ → Type 0

@@ -1,16 +1,14 @@
 // Reading the input as a lifecycle configuration.
-ghost use Rattle.std.specs.Prelude.{◌≡◌, ◌≤◌, ◌<◌, IfOk, IsErrOf, Ok, Err, length, take};
-ghost use Rattle.std.specs.Result.{IsErr};
+ghost use Rattle.std.specs.Prelude.{◌≡◌, ◌⊎◌, ◌<◌, ◌++◌, ℕ, List, IfOk, IfErr, Ok, Err, length};
 ghost use Rattle.std.specs.Io.KnownBytes.{Consumes, IsAtEnd};
 ghost use Rattle.rules_json.specs.Reading.{rules_of};
 ghost use Rattle.rules_json.specs.declared.fault.RulesFault.{RulesFault};
 ghost use Rattle.http_wire.specs.Sources.{OnlyReads};
 ghost use Rattle.http_front.specs.Counts.{stream_ends};
 ghost use Rattle.http_front.specs.Texts.{flaw_number};
-ghost use Rattle.office_commands.specs.Configuring.{SaysRules, fault_number};
+ghost use Rattle.office_commands.specs.Configuring.{IsWholeInput, IsTooLong, SaysRules, fault_number};
 
 use http_wire::Source;
-use office_base::Failed;
 use rules_core::{RuleFlaw, RuleSet};
 use rules_json::{RulesFault, read_rules};
 use std::alloc::Global;
@@ -31,23 +29,41 @@ pub enum ConfigurationFault {
     NoMemory,
 }
 
-// Fills the room from the input, up to the end of either, and answers how many bytes it has.
-fn fill<S: Source>(input: &mut S, room: &mut [u8]) -> Result<usize, Failed>
-    ensures inside { IfOk result (λ count. count ≤ length room.new) }
-    ensures same_room { length room.new ≡ length room.old }
-    ensures gave { IfOk result (λ count. Consumes (S.left input.old) (S.left input.new) (take count room.new)) }
-    ensures at_end { IfOk result (λ count. count < length room.new → IsAtEnd (S.left input.new)) }
-    ensures only_reads { OnlyReads S.Source input.old input.new (IsErr result) }
+// Reads on, puts what was read behind the bytes that are there, and answers how many bytes it is. 0 is the end.
+fn read_on<S: Source>(input: &mut S, bytes: &mut Vec<u8>) -> Result<usize, ConfigurationFault>
+    ensures took { IfOk result (λ count. (given : List ℕ) × (length given ≡ count)
+        × (bytes.new.items ≡ bytes.old.items ++ given) × Consumes (S.left input.old) (S.left input.new) given) }
+    ensures at_end { result ≡ Ok 0 → IsAtEnd (S.left input.new) }
+    ensures faults { IfErr result (λ fault. (fault ≡ ConfigurationFault.ReadFault) ⊎ (fault ≡ ConfigurationFault.NoMemory)) }
+    ensures only_reads { OnlyReads S.Source input.old input.new (result ≡ Err ConfigurationFault.ReadFault) }
 {
-    let mut count = 0;
-    'filling: while count < room.len() {
-        match input.read(&mut room[count..]) {
-            Ok(0) => return Ok(count),
-            Ok(more) => count += more,
-            Err(failed) => return Err(failed),
+    let mut piece = [0; 1_024];
+    match input.read(&mut piece) {
+        Ok(count) => match bytes.extend_from_slice(&piece[..count]) {
+            Ok(()) => Ok(count),
+            Err(_) => Err(ConfigurationFault::NoMemory),
+        },
+        Err(_) => Err(ConfigurationFault::ReadFault),
+    }
+}
+
+// Reads the input to its end, unless it has more bytes than a configuration may have.
+fn read_whole<S: Source>(alloc: Global, input: &mut S) -> Result<Vec<u8>, ConfigurationFault>
+    ensures whole { IfOk result (λ bytes. IsWholeInput (stream_ends (S.left input.old) (S.left input.new)) bytes.items) }
+    ensures too_long { result ≡ Err ConfigurationFault.TooLong
+        → IsTooLong (stream_ends (S.left input.old) (S.left input.new)) }
+    ensures faults { (fault : RulesFault) → result ≡ Err (ConfigurationFault.Refused fault) → ⊥ }
+    ensures only_reads { OnlyReads S.Source input.old input.new (result ≡ Err ConfigurationFault.ReadFault) }
+{
+    let mut bytes = Vec::new(alloc);
+    'taking: while bytes.len() <= MOST_BYTES {
+        match read_on(input, &mut bytes) {
+            Ok(0) => return Ok(bytes),
+            Ok(_) => {}
+            Err(fault) => return Err(fault),
         }
     }
-    Ok(count)
+    Err(ConfigurationFault::TooLong)
 }
 
 // The rules that bytes say.
@@ -67,29 +83,23 @@ fn rules_in(alloc: Global, bytes: &[u8]) -> Result<RuleSet, ConfigurationFault>
 
 /// Reads the input to its end, as a configuration of at most 1,048,576 bytes.
 ///
-/// Cost: 1 MiB of memory for the bytes, and the reading of JSON.
+/// Cost: memory for the bytes, and the reading of JSON.
 ///
 /// # Errors
 ///
-/// `TooLong`: there are more bytes; one more is read, and nothing behind it. `Refused`: they are no configuration.
-/// `ReadFault`: a read failed. `NoMemory`: memory ran out.
+/// `TooLong`: there are more bytes; at most 1,024 more are read. `Refused`: they are no configuration. `ReadFault`: a
+/// read failed. `NoMemory`: memory ran out.
 pub(crate) fn read_configuration<S: Source>(
     alloc: Global,
     input: &mut S,
 ) -> Result<RuleSet, ConfigurationFault>
     ensures says { SaysRules (stream_ends (S.left input.old) (S.left input.new)) result }
-    ensures only_reads { OnlyReads S.Source input.old input.new (IsErrOf result ConfigurationFault.ReadFault) }
+    ensures only_reads { OnlyReads S.Source input.old input.new (result ≡ Err ConfigurationFault.ReadFault) }
 {
-    let Ok(mut room) = vec![in alloc; 0u8; MOST_BYTES + 1] else {
-        return Err(ConfigurationFault::NoMemory);
-    };
-    let Ok(count) = fill(input, room.as_mut_slice()) else {
-        return Err(ConfigurationFault::ReadFault);
-    };
-    if count > MOST_BYTES {
-        return Err(ConfigurationFault::TooLong);
+    match read_whole(alloc, input) {
+        Ok(bytes) => rules_in(alloc, &bytes),
+        Err(fault) => Err(fault),
     }
-    rules_in(alloc, &room[..count])
 }
 
 fn flaw_number(flaw: RuleFlaw) -> u64

@@ -18,8 +18,8 @@ ghost use Rattle.http_front.specs.Counts.{stream_ends};
 ghost use Rattle.office_commands.specs.Lines.{IsForecastExit};
 ghost use Rattle.office_commands.specs.Running.{journal_limit, around, IsPutOut, RunsOut, FailsToOpen};
 ghost use Rattle.office_commands.specs.Running.{SaysNoReply, NotesNothing};
-ghost use Rattle.office_commands.specs.Forecasting.{proposal, IsForetoldExit, MayRefuse, IsRefusalNumber};
-ghost use Rattle.office_commands.specs.Forecasting.{RefusesForecast, TellsProposal, TellsFault, ForecastsAfter};
+ghost use Rattle.office_commands.specs.Forecasting.{proposal, IsForetoldExit, MayRefuse, MayFail, IsRefusalNumber};
+ghost use Rattle.office_commands.specs.Forecasting.{RefusesForecast, TellsFailure, TellsProposal, TellsFault, ForecastsAfter};
 ghost use Rattle.office_commands.specs.Forecasting.{ForecastsBucket, Forecasts};
 
 use crate::configuration::{ConfigurationFault, fault_number, read_configuration};
@@ -94,6 +94,21 @@ fn refusal_number(refusal: &Refusal) -> u64
     }
 }
 
+// Tells why a forecast is not begun, and answers the status.
+fn refuse_proposal<W: Replies>(out: &mut W, fault: &ForecastFault) -> u8
+    requires { MayFail fault.now }
+    ensures tells { TellsFailure W.Replies fault.now out.old out.new result }
+    ensures unsaid { SaysNoReply W.Replies out.old out.new }
+    ensures later { W.faults out.old ≤ W.faults out.new }
+    ensures statuses { (result ≡ 6) ⊎ (result ≡ 14) }
+{
+    match fault {
+        ForecastFault::PastDay { .. } => refuse_forecast(out, PAST_DAY),
+        ForecastFault::Refused(refusal) => refuse_forecast(out, refusal_number(refusal)),
+        ForecastFault::NoMemory => run_out(out),
+    }
+}
+
 fn later(one: Moment, other: Moment) -> Moment
     ensures { result ≡ max one other }
 {
@@ -158,9 +173,7 @@ fn propose<W: Replies>(
 {
     match Forecast::begin(office, t, &asked.bucket, rules, asked.day) {
         Ok(mut forecast) => say_forecast(alloc, out, &mut forecast, t, asked.day),
-        Err(ForecastFault::PastDay { .. }) => refuse_forecast(out, PAST_DAY),
-        Err(ForecastFault::Refused(refusal)) => refuse_forecast(out, refusal_number(&refusal)),
-        Err(ForecastFault::NoMemory) => run_out(out),
+        Err(fault) => refuse_proposal(out, &fault),
     }
 }
 
