@@ -15,6 +15,8 @@ returns-clause-stands c = λ p stands.
 
 pub returns-clause-some : goal.returns-clause-some
 returns-clause-some c =
-    let is = c.self.invariant in
-    (is.office, whole_stands _ c.in_ok-machine.machine c.in_ok-kept.kept.items c.in_ok-kept-2.kept c.in_ok-kept.ensures.same c.in_ok-kept-2.ensures is.office is.stands
-        (c.in_ok-machine.ensures.stands is.office is.stands.records))
+    let is = c.self.invariant in (
+      is.office,
+      whole_stands _ c.in_ok-machine.machine c.in_ok-kept.kept.items c.in_ok-kept-2.kept c.in_ok-kept.ensures.same c.in_ok-kept-2.ensures is.office is.stands
+          (c.in_ok-machine.ensures.stands is.office is.stands.records),
+    )
