@@ -2,10 +2,12 @@ pub mod BodyLaws
 pub mod CombiningLaws
 pub mod CommandTexts
 pub mod Examples
-pub mod Maps
+pub mod Filling
+pub mod Joining
 pub mod PartLaws
 pub mod Rising
 pub mod RulesTexts
+pub mod Saved
 pub mod TariffRanges
 pub mod Triples
 pub mod Wholes

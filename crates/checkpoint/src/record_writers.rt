@@ -4,7 +4,8 @@ ghost use Rattle.std.specs.Int.{w8};
 ghost use Rattle.uploads.specs.Uploads.{IsUpload};
 ghost use Rattle.entry_codec.specs.Fields.{moment_format};
 ghost use Rattle.entry_codec.specs.Formats.{number, list, pair};
-ghost use Rattle.checkpoint.specs.Parts.{four, month_format, tariff_format, version_format, stack_format, stacks_format};
+ghost use Rattle.checkpoint.specs.Parts.{four, month_format, tariff_format, version_format};
+ghost use Rattle.checkpoint.specs.Parts.{stack_format, stacks_format};
 ghost use Rattle.checkpoint.specs.Parts.{part_format, upload_parts_format, upload_format, uploads_format, sums_format};
 
 use crate::number_writers::{
