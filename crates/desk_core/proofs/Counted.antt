@@ -1,5 +1,5 @@
 -- How many commands a journal has room for.
-use Rattle.std.proofs.Common.{◌≡◌, ℕ, ◌+◌, ◌*◌, ◌^◌, ◌≤◌, List, [], ◌∷◌, ◌++◌, length, Option, Some, None, true, refl, arith, length-append}
+use Rattle.std.proofs.Common.{◌≡◌, ◌⊎◌, inl, inr, ap, ℕ, ◌+◌, ◌*◌, ◌^◌, ◌≤◌, List, [], ◌∷◌, ◌++◌, length, Option, Some, None, true, refl, arith, length-append}
 use Rattle.std.specs.List.{flat_map}
 use Rattle.std.specs.Int.{w16}
 use Rattle.plain_office.specs.Office.{Office}
@@ -104,6 +104,10 @@ unfolding journal_bytes
 gate_long head entries =
     omega (arith, frames_long entries, length-append head (flat_map (λ (e : Entry). 0xA5 ∷ framed (spelling e)) entries))
 
+pub few_entries : (head : List ℕ) (entries : List Entry) (gate : ℕ) → gate ≡ end_gate head entries → (entries ≡ []) ⊎ (gate ≤ 2 ^ 45) → length entries ≤ most_accepted
+few_entries head entries gate end (inl none) = let e : length entries ≡ 0 = ap length none in omega (arith, e)
+few_entries head entries gate end (inr small) = omega (arith, end, small, gate_long head entries)
+
 pub counted_few : {start : Office} (head : List ℕ) (entries : List Entry) (view : OfficeView) (gate : ℕ) → StandsSince start entries view
-    → gate ≡ end_gate head entries → gate ≤ 2 ^ 45 → view.records.accepted ≤ most_accepted
-counted_few head entries view gate is end small = omega (arith, is.counted, end, small, gate_long head entries)
+    → gate ≡ end_gate head entries → (entries ≡ []) ⊎ (gate ≤ 2 ^ 45) → view.records.accepted ≤ most_accepted
+counted_few head entries view gate is end small = omega (arith, is.counted, few_entries head entries gate end small)

@@ -26,17 +26,9 @@ use Rattle.meter_journal.proofs.History.{end_gate-none, end_gate-push}
 use Rattle.meter_journal.proofs.Prefix.{prefix_start, read_more, read_end}
 use Rattle.meter_journal.proofs.Unique.{goes_on, never_broken}
 use Rattle.desk_core.specs.Histories.{HasAcceptedHistory}
-use Rattle.desk_core.specs.Damage.{IsDamagedAt, IsNotTaken, OpenFails, ReplayFails, HasReplayed}
+use Rattle.desk_core.specs.Damage.{IsDamagedAt, IsNotTaken, OpenFails}
 use Rattle.desk_core.specs.Offices.{StandsAfter}
-use Rattle.desk_core.proofs.Offices.{Done, fresh_in, few, nothing_taken, not_taken as refused}
-
--- the entries up to this gate were read, on every disk; on an honest one they are those of its journal file
-pub record HasRead {D : Type 0} (d : disks.Ghosts D) (disk : D) (gate : ℕ) (office : OfficeView) : Type 0 where
-  pub history : List Entry
-  pub office_is : StandsAfter history office
-  pub end : gate ≡ end_gate header history
-  pub small : gate ≤ 2 ^ 45
-  pub prefix : IsTrue d.honest → (file : List ℕ) → (d.state disk).journal ≡ synced_file file → IsMade file → HasPrefix header history gate file
+use Rattle.desk_core.proofs.Offices.{Done, fresh_in, nothing_taken, not_taken as refused}
 
 -- ---- why an entry is not taken
 
@@ -86,96 +78,16 @@ recalled_not_accepted view e token result is exact other lacks p stands =
       by : ((kept : KeptReply) × (kept_at token p.kept ≡ Some kept)) → accept p e ≡ None
       by (kept, there) = again_refused p e kept (ap (λ (t : Token). kept_for t p) is ∙ there)
 
--- ---- reading all entries
-
-module _ {D : Type 0} (d : disks.Ghosts D) where
-  pub none_read : (disk : D) (gate : ℕ) (office : OfficeView) → gate ≡ 10 → StandsAfter [] office → HasRead d disk gate office
-  none_read disk gate office first empty = record {
-    history = [];
-    office_is = empty;
-    end = first ∙ sym (end_gate-none header);
-    small = omega (arith, first);
-    prefix = λ tells file on_disk made. subst (λ (k : ℕ). HasPrefix header [] k file) (sym first)
-        (prefix_start header 10 file (made_head file made) refl);
-  }
-
-  pub one_read : (disk mid : D) (gate next : ℕ) (office after : OfficeView) (o : Option Entry) (e : Entry) → HasRead d disk gate office → (IsTrue d.honest → d.state mid ≡ d.state disk)
-      → (IsTrue d.honest → (i : ℕ) → get_or (d.state disk).journal.seen i 0 < 256) → o ≡ Some
-      e → (IsTrue d.honest → NextGives (Ok o) gate next (frame_at gate (d.state mid).journal.seen)) → Advances (Ok o) gate next
-      → next ≤ 2 ^ 45 → ((history : List Entry) → StandsAfter history office → StandsAfter (history ++ e ∷ []) after) → HasRead d disk next after
-  one_read disk mid gate next office after o e read same bytes is gives advances small taken =
-      let passed : EntryFits e × (next ≡ gate + 5 + length (spelling e)) = subst (λ (x : Option Entry). Advances (Ok x) gate next) is advances in
-      record {
-        history = read.history ++ e ∷ [];
-        office_is = taken read.history read.office_is;
-        end = omega (arith, passed.1, read.end, end_gate-push header read.history e);
-        small = small;
-        prefix = λ tells file on_disk made.
-            read_more (read.prefix tells file on_disk made) (same tells) on_disk next o e (bytes tells) is (gives tells);
-      }
-
-  pub all_read : (disk mid new : D) (gate next : ℕ) (office : OfficeView) (o : Option Entry) → HasRead d disk gate office
-      → (IsTrue d.honest → d.state mid ≡ d.state disk) → (IsTrue d.honest → d.state new ≡ d.state mid)
-      → o ≡ None → (IsTrue d.honest → NextGives (Ok o) gate next (frame_at gate (d.state mid).journal.seen)) → Advances (Ok o) gate next → HasReplayed d disk new next office
-  all_read disk mid new gate next office o read same still is gives advances = record {
-    history = read.history;
-    office_is = read.office_is;
-    end = subst (λ (x : Option Entry). Advances (Ok x) gate next) is advances ∙ read.end;
-    small = let still : next ≡ gate = subst (λ (x : Option Entry). Advances (Ok x) gate next) is advances in omega (arith, still, read.small);
-    at_rest = λ tells file on_disk made.
-        read_end (read.prefix tells file on_disk made) (same tells) on_disk (d.state new) next o (still tells) is (gives tells);
-  }
-
-  -- the next entry is taken as far as the office can count
-  pub few_read : (disk : D) (gate : ℕ) (office : OfficeView) → HasRead d disk gate office → office.records.accepted < most_commands
-  few_read disk gate office read = few header read.history office gate read.office_is read.end read.small
-
--- ---- why reading fails
-
-seen_is : (first mid : State) (file : List ℕ) → mid ≡ first → first.journal ≡ synced_file file → mid.journal.seen ≡ file
-seen_is first mid file same on_disk = ap (λ (s : State). s.journal.seen) same ∙ ap (λ (f : File). f.seen) on_disk
+-- ---- why a journal is not opened that is read from its first gate on
 
 pub broken_at : (fault : OpenFault) (history : List Entry) (office : Office) (gate next : ℕ) (file : List ℕ) → IsMade file → HasPrefix header history gate file → run history ≡ Some office
-    → NextGives (Err fault) gate next (frame_at gate file) → ReplayFails fault file
+    → NextGives (Err fault) gate next (frame_at gate file) → OpenFails fault file
 broken_at faults.NotMade history office gate next file made before is gives = absurd gives.1
 broken_at faults.Foreign history office gate next file made before is gives = absurd gives.1
 broken_at (faults.Damaged at) history office gate next file made before is gives =
     subst (λ (k : ℕ). IsDamagedAt k file) (sym gives.1.0) (record { made = made; history = history; office = office; before = before; is_run = is; breaks = inl gives.1.1 })
 broken_at faults.StoreFault history office gate next file made before is gives = tt
 broken_at faults.NoMemory history office gate next file made before is gives = tt
-
--- at this gate, behind entries that the office accepts
-module _ {first mid : State} {history : List Entry} {office : Office} {gate : ℕ} {file : List ℕ} (same : mid ≡ first)
-    (on_disk : first.journal ≡ synced_file file) (made : IsMade file) (before : HasPrefix header history gate file)
-    (is : run history ≡ Some office) where
-  pub next_fails : (fault : OpenFault) (next : ℕ) → NextGives (Err fault) gate next (frame_at gate mid.journal.seen) → ReplayFails fault file
-  next_fails fault next gives =
-      broken_at fault history office gate next file made before is
-      (subst (λ (t : List ℕ). NextGives (Err fault) gate next (frame_at gate t)) (seen_is first mid file same on_disk) gives)
-
-  -- the entry at the gate is not accepted
-  pub take_fails : (fault : OpenFault) (next : ℕ) (read : Option Entry) (entry : Entry) → read ≡ Some entry
-      → NextGives (Ok read) gate next (frame_at gate mid.journal.seen)
-      → (fault ≡ faults.NoMemory) ⊎ ((fault ≡ faults.Damaged gate) × (accept office entry ≡ None)) → ReplayFails fault file
-  take_fails fault next read entry some gives (inl want) = subst (λ (f : OpenFault). ReplayFails f file) (sym want) tt
-  take_fails fault next read entry some gives (inr x) =
-      let frame : frame_at gate mid.journal.seen ≡ Whole entry next =
-      subst (λ (r : Option Entry). NextGives (Ok r) gate next (frame_at gate mid.journal.seen)) some gives in
-      subst (λ (f : OpenFault). ReplayFails f file) (sym x.0) (record {
-        made = made;
-        history = history;
-        office = office;
-        before = before;
-        is_run = is;
-        breaks = inr (entry, next, ap (frame_at gate) (sym (seen_is first mid file same on_disk)) ∙ frame, x.1);
-      })
-
-pub replay_open : (fault : OpenFault) (file : List ℕ) → ReplayFails fault file → OpenFails fault file
-replay_open faults.NotMade file fails = absurd fails
-replay_open faults.Foreign file fails = absurd fails
-replay_open (faults.Damaged at) file fails = fails
-replay_open faults.StoreFault file fails = tt
-replay_open faults.NoMemory file fails = tt
 
 -- ---- a file with a history is opened
 

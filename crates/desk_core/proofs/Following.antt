@@ -13,8 +13,9 @@ use Rattle.office_types.specs.declared.command.Ask.{Ask}
 use Rattle.desk_core.specs.declared.clock.Clock as clocks
 use Rattle.desk_core.specs.Answers.{Answer, Call}
 use Rattle.desk_core.specs.Submitting.{Submits}
-use Rattle.desk_core.specs.Desk.{DeskView, StandsFor}
-use Rattle.desk_core.specs.Serving.{Opened, Recoverable, KeepsSlots}
+use Rattle.desk_core.specs.Desk.{DeskView, StandsFor, TellsFault}
+use Rattle.desk_core.specs.Serving.{Opened, Recoverable, KeepsSlots, IsToldBy, AreToldBy}
+use Rattle.desk_core.proofs.OneCallMore.{told_later}
 use Rattle.desk_core.specs.declared.fault.DeskFault.{DeskFault}
 use Rattle.desk_core.specs.declared.fault.DeskFault.TheVariants as faults
 use Rattle.desk_core.proofs.Serving.{rose_later}
@@ -25,6 +26,13 @@ use Rattle.desk_core.specs.Runs.{stale_by}
 
 rose_on : (a b c : ℕ) → Rose a b → b ≤ c → Rose a c
 rose_on a b c rose le = omega (arith, rose, le)
+
+tells_told : (said : Result Answer DeskFault) (before now : ℕ) → TellsFault said before now → IsToldBy now said
+tells_told (Ok answer) before now told = tt
+tells_told (Err (faults.StoreFault number count)) before now told = omega (arith, told.1)
+tells_told (Err faults.JournalFull) before now told = tt
+tells_told (Err (faults.Broken fault)) before now told = tt
+tells_told (Err faults.NoMemory) before now told = tt
 
 -- a number, then the others
 begins_more : (said : Result Answer DeskFault) (numbers rest : List ℕ) → BeginsWith said numbers [] → BeginsWith said (numbers ++ rest) rest
@@ -81,13 +89,21 @@ module _ {D C : Type 0} (d : disks.Ghosts D) (k : clocks.Ghosts C) where
       (disk_later path.0 new calls path.2))) (path.1.grows_stale mid))
       (λ rose. inr (rose_later (d.fault_count old.disk) (d.fault_count path.0.disk) (d.fault_count new.disk) path.1.disk_later rose)) (stale_rose path.0 new calls path.2 is)
 
+  -- each count that a fault of the store told is one of the disk
+  pub told_by : (old new : DeskView D C) (calls : List Call) → Path old calls new → AreToldBy (d.fault_count new.disk) calls
+  told_by old new [] path = tt
+  told_by old new (call ∷ calls) path = (
+    told_later call.said (d.fault_count path.0.disk) (d.fault_count new.disk) (disk_later path.0 new calls path.2) (tells_told call.said (d.fault_count old.disk) (d.fault_count path.0.disk) path.1.cause),
+    told_by path.0 new calls path.2,
+  )
+
   -- ---- what the desk stands for, and what each image had at every moment since the entry
 
   -- from the desk of the opening on
   pub record Followed (opening : D) (opened : Opened) (calls : List Call) (desk : DeskView D C) : Type 0 where
     pub stands : Stands opened calls desk
-    pub ran : IsTrue d.honest → KeepsTo d opening desk.disk (Recoverable opened calls)
-    pub slots : IsTrue d.honest → KeepsTo d opening desk.disk (KeepsSlots (d.state opening))
+    pub ran : KeepsTo d opening desk.disk (Recoverable opened calls)
+    pub slots : KeepsTo d opening desk.disk (KeepsSlots (d.state opening))
 
   follow_on : (opening : D) (opened : Opened) (so_far : List Call) (old new : DeskView D C) (calls : List Call)
       → Followed opening opened so_far old → Path old calls new → Followed opening opened (so_far ++ calls) new
@@ -98,10 +114,10 @@ module _ {D C : Type 0} (d : disks.Ghosts D) (k : clocks.Ghosts C) where
       let went = path.1.stands opened so_far followed.stands in
       let next : Followed opening opened (so_far ++ call ∷ []) path.0 = record {
         stands = went.stands;
-        ran = λ tells. joined (Recoverable opened (so_far ++ call ∷ [])) (followed.ran tells) (went.any_moment tells) (recoverable_more opened so_far (call ∷ [])) (λ s p. p);
-        slots = λ tells.
-            let run = followed.slots tells in
-            joined (KeepsSlots (d.state opening)) run (went.slots tells) (λ s p. p) (λ s p. (p.0 ∙ run.now.0, p.1 ∙ run.now.1));
+        ran = joined (Recoverable opened (so_far ++ call ∷ [])) followed.ran went.any_moment (recoverable_more opened so_far (call ∷ [])) (λ s p. p);
+        slots =
+            let run = followed.slots in
+            joined (KeepsSlots (d.state opening)) run went.slots (λ s p. p) (λ s p. (p.0 ∙ run.now.0, p.1 ∙ run.now.1));
       } in
       subst (λ (l : List Call). Followed opening opened l new) (append_assoc so_far (call ∷ []) calls) (follow_on opening opened (so_far ++ call ∷ []) path.0 new calls next path.2)
 
@@ -109,9 +125,9 @@ module _ {D C : Type 0} (d : disks.Ghosts D) (k : clocks.Ghosts C) where
     pub follow : (opened : Opened) (old new : DeskView D C) (calls : List Call) → Stands opened [] old → Path old calls new → Followed old.disk opened calls new
     follow opened old new calls stands path = follow_on old.disk opened [] old new calls (record {
       stands = stands;
-      ran = λ tells. started d old.disk (Recoverable opened []) (laws.only_now old.disk) (λ image is.
-          let serves = stands.serves tells in
+      ran = started d old.disk (Recoverable opened []) (laws.only_now old.disk) (λ image is.
+          let serves = stands.serves in
           let r = serves.left (d.moment old.disk) (d.state old.disk) image serves.later (omega arith) (laws.counts_now old.disk (d.moment old.disk) (omega arith)) is in
           (r.history, r.count, r.has, r.most, r.legal));
-      slots = λ tells. started d old.disk (KeepsSlots (d.state old.disk)) (laws.only_now old.disk) (refl, refl);
+      slots = started d old.disk (KeepsSlots (d.state old.disk)) (laws.only_now old.disk) (refl, refl);
     }) path

@@ -4,7 +4,6 @@ use Rattle.std.proofs.lemmas.Bool.{cases_lt}
 use Rattle.std.proofs.lemmas.List.{take-append-le}
 use Rattle.disk_core.specs.declared.disk.Disk as disks
 use Rattle.disk_core.specs.Files.{State, IsImage}
-use Rattle.disk_core.specs.Fronts.{Narrower}
 use Rattle.disk_core.specs.Moments.{KeepsTo}
 use Rattle.disk_core.proofs.Laws.{DiskLaws}
 use Rattle.disk_core.proofs.Time.{weakened}
@@ -18,6 +17,10 @@ use Rattle.desk_core.proofs.OneCallMore.{HasImageOf, last_faults, legal_append, 
 pub told_all : (calls : List Call) (before now : ℕ) → before ≤ now → AreToldBy before calls → AreToldBy now calls
 told_all [] before now le all = tt
 told_all (call ∷ calls) before now le all = (told_later call.said before now le all.0, told_all calls before now le all.1)
+
+-- each image of the journal file is one that it had at first
+abbrev pub HasFewer : State → State → Type 0
+HasFewer first s = (image : List ℕ) → IsImage s.journal image → IsImage first.journal image
 
 -- ---- more calls
 
@@ -41,7 +44,7 @@ module _ {D : Type 0} {d : disks.Ghosts D} (laws : DiskLaws d) where
 
   -- ---- a disk with fewer images
 
-  module _ (opened : Opened) (old new : D) (calls : List Call) (serves : DiskServes d opened old calls) (run : KeepsTo d old new (Narrower (d.state old))) where
+  module _ (opened : Opened) (old new : D) (calls : List Call) (serves : DiskServes d opened old calls) (run : KeepsTo d old new (HasFewer (d.state old))) where
     old_now : (image : List ℕ) (t : ℕ) → opened.moment ≤ t → t ≤ d.moment old → IsImage (d.state old).journal image → Recovers opened calls t image
     old_now image t since le is = serves.left t (d.state old) image since le (laws.counts_now old t le) is
 
@@ -60,8 +63,8 @@ module _ {D : Type 0} {d : disks.Ghosts D} (laws : DiskLaws d) where
     left_narrower t s image since had is = elim (cases_lt (d.moment old) t) [
       | inl later ↦
           let narrow = run.each s (laws.since_earlier new (d.moment old) t s (omega (arith, later)) had) in
-          at_any_time t image (old_now image (d.moment old) serves.later (omega arith) (narrow.journal image is))
-      | inr le ↦ ⊎_elim (λ was. serves.left t s image since le was is) (λ narrow. old_now image t since le (narrow.journal image is)) (run.before t s le had)
+          at_any_time t image (old_now image (d.moment old) serves.later (omega arith) (narrow image is))
+      | inr le ↦ ⊎_elim (λ was. serves.left t s image since le was is) (λ narrow. old_now image t since le (narrow image is)) (run.before t s le had)
     ]
 
     agrees_narrower : (place : ℕ) (answer : Answer) → IsAckedAt calls place answer → Agrees d new answer
@@ -72,23 +75,23 @@ module _ {D : Type 0} {d : disks.Ghosts D} (laws : DiskLaws d) where
           entries = was.entries;
           place = was.place;
           kept = λ s image history had is_image stands. ⊎_elim (λ before. was.kept s image history before is_image stands)
-              (λ narrow. was.kept (d.state old) image history (laws.counts_now old answer.disk_moment le) (narrow.journal image is_image) stands) (run.before answer.disk_moment s le had);
+              (λ narrow. was.kept (d.state old) image history (laws.counts_now old answer.disk_moment le) (narrow image is_image) stands) (run.before answer.disk_moment s le had);
         }
 
     -- what a crash of the old disk would have left is in each image of the new one, but for one entry at its end
     steady_old : (t : ℕ) (s : State) (image : List ℕ) (h : List Entry) → opened.moment ≤ t → t ≤ d.moment old → d.had_since old t s → IsImage s.journal image → HasAcceptedHistory h image
         → (image_now : List ℕ) (now : List Entry) → IsImage (d.state new).journal image_now → HasAcceptedHistory now image_now → IsPrefixButOne h now
     steady_old t s image h since le had is stands image_now now is_now stands_now =
-        serves.steady t s image h since le had is stands image_now now (run.now.journal image_now is_now) stands_now
+        serves.steady t s image h since le had is stands image_now now (run.now image_now is_now) stands_now
 
     steady_narrower : (t : ℕ) (s : State) (image : List ℕ) (h : List Entry) → opened.moment ≤ t → d.had_since new t s → IsImage s.journal image → HasAcceptedHistory h image
         → (image_now : List ℕ) (now : List Entry) → IsImage (d.state new).journal image_now → HasAcceptedHistory now image_now → IsPrefixButOne h now
     steady_narrower t s image h since had is stands image_now now is_now stands_now = elim (cases_lt (d.moment old) t) [
       | inl later ↦
           let narrow = run.each s (laws.since_earlier new (d.moment old) t s (omega (arith, later)) had) in
-          steady_old (d.moment old) (d.state old) image h serves.later (omega arith) (laws.counts_now old (d.moment old) (omega arith)) (narrow.journal image is) stands image_now now is_now stands_now
+          steady_old (d.moment old) (d.state old) image h serves.later (omega arith) (laws.counts_now old (d.moment old) (omega arith)) (narrow image is) stands image_now now is_now stands_now
       | inr le ↦ ⊎_elim (λ was. steady_old t s image h since le was is stands image_now now is_now stands_now)
-          (λ narrow. steady_old t (d.state old) image h since le (laws.counts_now old t le) (narrow.journal image is) stands image_now now is_now stands_now) (run.before t s le had)
+          (λ narrow. steady_old t (d.state old) image h since le (laws.counts_now old t le) (narrow image is) stands image_now now is_now stands_now) (run.before t s le had)
     ]
 
     pub narrowed : d.fault_count old ≤ d.fault_count new → DiskServes d opened new calls
@@ -96,15 +99,15 @@ module _ {D : Type 0} {d : disks.Ghosts D} (laws : DiskLaws d) where
       later = omega (arith, serves.later, run.later);
       left = λ t s image since le had is. left_narrower t s image since had is;
       agrees = agrees_narrower;
-      whole = λ image history is stands. serves.whole image history (run.now.journal image is) stands;
+      whole = λ image history is stands. serves.whole image history (run.now image is) stands;
       steady = λ t s image h since le had is stands image_now now is_now stands_now. steady_narrower t s image h since had is stands image_now now is_now stands_now;
       told = λ place answer is. let was = serves.told place answer is in (was.0, omega (arith, was.1, run.later));
       faults = (omega (arith, serves.faults.0, counts), told_all calls (d.fault_count old) (d.fault_count new) counts serves.faults.1);
     }
 
-    narrower_front : (s : State) → Narrower (d.state old) s → Recoverable opened calls s
+    narrower_front : (s : State) → HasFewer (d.state old) s → Recoverable opened calls s
     narrower_front s narrow image is =
-        let was = old_now image (d.moment old) serves.later (omega arith) (narrow.journal image is) in
+        let was = old_now image (d.moment old) serves.later (omega arith) (narrow image is) in
         (was.history, was.count, was.has, was.most, was.legal)
 
     pub narrowed_run : KeepsTo d old new (Recoverable opened calls)

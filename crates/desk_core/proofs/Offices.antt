@@ -56,7 +56,7 @@ unmoved t token c p (Err refusal) fresh is not_accepted = with_refused t token c
 unmoved t token c p (Ok NothingDue) fresh is not_accepted = with_nothing t token c p fresh (sym is)
 unmoved t token c p (Ok reply) fresh is not_accepted = absurd cc
 
-unmoved_stands : (t : ℕ) (token : Token) (c : Command) (p : Office) (new : OfficeView) (answer : Answer) → kept_for token p ≡ None → is_accepted answer ≡ false
+pub unmoved_stands : (t : ℕ) (token : Token) (c : Command) (p : Office) (new : OfficeView) (answer : Answer) → kept_for token p ≡ None → is_accepted answer ≡ false
     → DoesOnce (step_with t token c p) p new answer → StandsFor new p
 unmoved_stands t token c p new answer fresh not_accepted (inl same) =
     subst (λ (q : Office). StandsFor new q) (unmoved t token c p answer fresh same.0 not_accepted) same.1

@@ -24,7 +24,7 @@ use Rattle.desk_core.specs.declared.fault.DeskFault.TheVariants as faults
 use Rattle.desk_core.specs.Answers.{Answer, Call}
 use Rattle.desk_core.specs.Asked.{Asked, asked, entry_of}
 use Rattle.desk_core.specs.Calls.{Legal, IsLegal, IsDone, IsReply, IsWritten, IsKeptAt, MayBeKept, GrowsBy, faults_after, moment_after}
-use Rattle.desk_core.specs.Histories.{HasAcceptedHistory, IsSound, IsPrefixOf, IsPrefixButOne}
+use Rattle.desk_core.specs.Histories.{HasAcceptedHistory, HaveHistories, IsPrefixOf, IsPrefixButOne}
 use Rattle.desk_core.specs.Serving.{IsAckedAt, IsToldBy, AreToldBy, Opened, Recoverable, Recovers, Agrees, DiskServes}
 
 -- some image of the journal file has this history
@@ -41,7 +41,7 @@ last_faults told (call ∷ calls) = last_faults (faults_after told call.said) ca
 module _ {D : Type 0} (d : disks.Ghosts D) where
   -- in a call each image has the history on which it settled, one from before, or what the call made of the settled one
   pub record InCall (old : D) (limit last : ℕ) (call : Call) (settled : List Entry) (s : State) : Type 0 where
-    pub sound : IsSound s
+    pub sound : HaveHistories s
     pub each : (image : List ℕ) (history : List Entry) → IsImage s.journal image → HasAcceptedHistory history image
         → HasImageOf (d.state old) history ⊎ Legal true limit last (call ∷ []) settled history
 
@@ -350,7 +350,7 @@ module _ {D : Type 0} {d : disks.Ghosts D} (laws : DiskLaws d) where
     }
 
   -- at the return of an opening whose disk has one history
-  pub starts : (opened : Opened) (disk : D) → IsSound (d.state disk)
+  pub starts : (opened : Opened) (disk : D) → HaveHistories (d.state disk)
       → ((image : List ℕ) (history : List Entry) → IsImage (d.state disk).journal image → HasAcceptedHistory history image → history ≡ opened.history)
       → opened.moment ≡ d.moment disk → opened.faults ≡ d.fault_count disk → DiskServes d opened disk []
   starts opened disk sound one at counts = record {

@@ -23,8 +23,8 @@ use Rattle.desk_core.specs.Asked.{Asked, AsksFor}
 use Rattle.desk_core.specs.Desk.{DeskView, HoldsTail}
 use Rattle.desk_core.specs.Offices.{Tail}
 use Rattle.desk_core.specs.Answering.{call_time, AnswersInTime}
-use Rattle.desk_core.specs.Submitting.{PassesLimit}
-use Rattle.desk_core.proofs.Adding.{done_of, is_made, made}
+use Rattle.desk_core.specs.Submitting.{PassesLimit, RepliesInTime}
+use Rattle.desk_core.proofs.Adding.{done_of, is_made, made, replies_of}
 use Rattle.desk_core.proofs.Offices.{kept_same}
 
 -- ---- what an ask with a token asks for
@@ -157,3 +157,14 @@ pub not_passing : {D C : Type 0} (t : ℕ) (desk : DeskView D C) (token : List �
 not_passing t desk token c p reply takes stands r passes =
     is_kept p token c desk.office stands reply r
     (subst (λ (b : Bool). IfSome (if b then Some token else None) (λ (one : List ℕ). kept_in one desk.office.kept.queue ≡ None)) takes passes.1)
+
+-- ---- so each plain office replies that the one in memory stands for
+
+pub so_again : (t : ℕ) (token : List ℕ) (c : Command) (takes : takes_token c ≡ true) (p : Office) (view : OfficeView) (reply : Result Reply Refusal) (said : Answer) → said.reply ≡ reply
+    → StandsFor view p → IsRecalled p token c reply → RepliesInTime t (ask.Once token c) p (Ok said) view
+so_again t token c takes p view reply said same stands r =
+    let call : Asked = record { token = Some token; command = c } in
+    let step = step_kept t (Some token) c p r.one r.there in
+    replies_of t call p said.reply view (ask.Once token c) (asks_with token c takes)
+    (same ∙ sym (ap (λ (x : Office × Result Reply Refusal). x.1) step ∙ r.is))
+    (subst (λ (q : Office). StandsFor view q) (sym (ap (λ (x : Office × Result Reply Refusal). x.0) step)) stands)

@@ -31,6 +31,9 @@ one_legal honest limit told call before after p is legal =
 pub rose_later : (a b c : ℕ) → a ≤ b → Rose b c → Rose a c
 rose_later a b c le rose = omega (arith, le, rose)
 
+pub then_later : (a b c : ℕ) → Rose a b → b ≤ c → Rose a c
+then_later a b c rose later = omega (arith, rose, later)
+
 last_next : (first now : ℕ) (said : Result Answer DeskFault) → first ≤ now → IsToldBy now said → faults_after first said ≤ now
 last_next first now (Ok answer) le told = le
 last_next first now (Err (faults.StoreFault number count)) le told = told

@@ -9,6 +9,7 @@ use Rattle.office_base.specs.Faults.{Rose}
 use Rattle.moments.specs.Time.{end_of_time}
 use Rattle.disk_core.specs.declared.disk.Disk as disks
 use Rattle.disk_core.specs.declared.disk.FileNo.TheVariants.{Journal}
+use Rattle.disk_core.specs.Files.{State, File, IsImage}
 use Rattle.disk_core.specs.Moments.{KeepsTo}
 use Rattle.disk_core.proofs.Laws.{DiskLaws}
 use Rattle.disk_core.proofs.Time.{started, weakened}
@@ -32,9 +33,10 @@ use Rattle.desk_core.specs.declared.fault.DeskFault.TheVariants as faults
 use Rattle.desk_core.specs.Answers.{Answer, Call}
 use Rattle.desk_core.specs.Asked.{Asked, asked, entry_of, IsFresh, IsNotKept}
 use Rattle.desk_core.specs.Calls.{Legal, IsLegal, IsDone, IsReply, IsFull, IsWritten, IsKeptAt, IsCommand, FitsIn, moment_after}
+use Rattle.desk_core.specs.Histories.{SlotsFit}
 use Rattle.desk_core.specs.Serving.{Opened, IsToldBy, AreToldBy, KeepsSlots, DiskServes}
 use Rattle.desk_core.specs.Submitting.{PassesLimit}
-use Rattle.desk_core.specs.Desk.{DeskView, HoldsHistory, GoesOn, stale_after}
+use Rattle.desk_core.specs.Desk.{DeskView, HoldsHistory, IsReady, GoesOn, stale_after}
 use Rattle.desk_core.specs.Offices.{from_first}
 use Rattle.desk_core.specs.Answering.{call_time, IsAnswerOf, CarriesOut, Grows, StoreFails, IsDoneAt, HasFailed, AnswersInTime, AnswersEnded, AnswersAt, AnswersAsk}
 use Rattle.desk_core.proofs.Adding.{asked_and}
@@ -81,7 +83,20 @@ module _ {D : Type 0} {C : Type 0} (d : disks.Ghosts D) where
 -- a desk holds a history whether or not it is marked as stale
 pub marked_holds : {D C : Type 0} (d : disks.Ghosts D) (history : List Entry) (desk : DeskView D C) (stale : Bool) → HoldsHistory d history desk
     → HoldsHistory d history (record desk { stale = stale })
-marked_holds d history desk stale h = record { office = h.office; end = h.end; small = h.small; limit = h.limit; at_rest = h.at_rest }
+marked_holds d history desk stale h = record { office = h.office; end = h.end; each = h.each; small = h.small; limit = h.limit; at_rest = h.at_rest }
+
+-- and is ready
+pub marked_ready : {D C : Type 0} (d : disks.Ghosts D) (desk : DeskView D C) (stale : Bool) → IsReady d desk → IsReady d (record desk { stale = stale })
+marked_ready d desk stale ready =
+    let h = ready.holds in
+    record { tail = ready.tail; holds = record { office = h.office; end = h.end; each = h.each; small = h.small; limit = h.limit; at_rest = h.at_rest }; takes = ready.takes; starts = ready.starts }
+
+-- slots that are as they were fit what they fitted
+pub fits_same : (first s : State) (history : List Entry) → KeepsSlots first s → SlotsFit history first → SlotsFit history s
+fits_same first s history same fit = record {
+  slot0 = λ image is. fit.slot0 image (subst (λ (f : File). IsImage f image) same.0 is);
+  slot1 = λ image is. fit.slot1 image (subst (λ (f : File). IsImage f image) same.1 is);
+}
 
 -- an office over its journal stands for a list of calls since the opening of its desk
 pub record StandsAt {D C : Type 0} (d : disks.Ghosts D) (opened : Opened) (calls : List Call) (desk : DeskView D C) : Type 0 where
@@ -90,7 +105,9 @@ pub record StandsAt {D C : Type 0} (d : disks.Ghosts D) (opened : Opened) (calls
   pub history : List Entry
   pub legal : Legal d.honest opened.limit opened.faults calls opened.history history
   pub holds : HoldsHistory d history desk
-  pub serves : IsTrue d.honest → DiskServes d opened desk.disk calls
+  pub tells : IsTrue d.honest
+  pub serves : DiskServes d opened desk.disk calls
+  pub slots : SlotsFit opened.history (d.state desk.disk)
 
 module _ {D C : Type 0} {d : disks.Ghosts D} (laws : DiskLaws d) where
   abbrev Stands : Opened → List Call → DeskView D C → Type 0
@@ -102,8 +119,10 @@ module _ {D C : Type 0} {d : disks.Ghosts D} (laws : DiskLaws d) where
     faults = s.faults;
     history = s.history;
     legal = s.legal;
-    holds = let h = s.holds in record { office = h.office; end = h.end; small = h.small; limit = h.limit; at_rest = h.at_rest };
+    holds = let h = s.holds in record { office = h.office; end = h.end; each = h.each; small = h.small; limit = h.limit; at_rest = h.at_rest };
+    tells = s.tells;
     serves = s.serves;
+    slots = s.slots;
   }
 
   module _ (old new : DeskView D C) (same_limit : new.limit ≡ old.limit) (later : d.fault_count old.disk ≤ d.fault_count new.disk)
@@ -115,11 +134,11 @@ module _ {D C : Type 0} {d : disks.Ghosts D} (laws : DiskLaws d) where
     Next call = GoesOn d opened (calls ++ call ∷ []) old.disk (record new { stale = stale_after false call.said })
 
     grown_by : (call : Call) (after : List Entry) → ((b : Bool) → Legal b opened.limit last (call ∷ []) s.history after) → (stale_after false call.said ≡ false → HoldsHistory d after new)
-        → ((IsTrue d.honest → ⊥) → stale_after false call.said ≡ true → (history : List Entry) → Legal d.honest opened.limit last (call ∷ []) s.history history)
         → IsToldBy (d.fault_count new.disk) call.said
-        → (IsTrue d.honest → KeepsTo d old.disk new.disk (KeepsSlots (d.state old.disk))) → (IsTrue d.honest → Makes d old.disk new.disk opened.limit last call) → Next call
-    grown_by call after rule holds lost told slots makes = record {
+        → KeepsTo d old.disk new.disk (KeepsSlots (d.state old.disk)) → Makes d old.disk new.disk opened.limit last call → Next call
+    grown_by call after rule holds told slots makes = record {
       stands = record {
+        tells = s.tells;
         limit = same_limit ∙ s.limit;
         faults = (omega (arith, later, s.faults.0), told_more calls call (d.fault_count old.disk) (d.fault_count new.disk) later s.faults.1 told);
         holds = λ fine. (
@@ -127,10 +146,10 @@ module _ {D C : Type 0} {d : disks.Ghosts D} (laws : DiskLaws d) where
           legal_append d.honest opened.limit opened.faults calls (call ∷ []) opened.history s.history after s.legal (rule d.honest),
           marked_holds d after new (stale_after false call.said) (holds fine),
         );
-        lost = λ not is history some. legal_append d.honest opened.limit opened.faults calls (call ∷ []) opened.history s.history history s.legal (lost not is history);
-        serves = λ tells. one_more laws opened old.disk new.disk calls call (s.serves tells) (makes tells);
+        serves = one_more laws opened old.disk new.disk calls call s.serves makes;
+        slots = fits_same (d.state old.disk) (d.state new.disk) opened.history slots.now s.slots;
       };
-      any_moment = λ tells. recoverable laws opened old.disk new.disk calls call (s.serves tells) (makes tells);
+      any_moment = recoverable laws opened old.disk new.disk calls call s.serves makes;
       slots = slots;
     }
 
@@ -153,21 +172,21 @@ module _ {D C : Type 0} {d : disks.Ghosts D} (laws : DiskLaws d) where
     still_by : (call : Call) → stale_after false call.said ≡ false → new.disk ≡ old.disk → HoldsHistory d s.history new
         → ((b : Bool) → IsLegal b opened.limit last call.ask call.said plain s.history s.history)
         → IsToldBy (d.fault_count new.disk) call.said
-        → (IsTrue d.honest → IsKept d new.disk call.said) → Next call
+        → IsKept d new.disk call.said → Next call
     still_by call fine same holds legal told kept =
         let rule : (b : Bool) → Legal b opened.limit last (call ∷ []) s.history s.history = λ b. one_legal b opened.limit last call s.history s.history plain runs (legal b) in
-        grown_by call s.history rule (λ _. holds) (λ not is. absurd (both_ways (stale_after false call.said) fine is)) told
-        (λ _. subst (λ (z : D). KeepsTo d old.disk z (KeepsSlots (d.state old.disk))) (sym same) (started d old.disk (KeepsSlots (d.state old.disk)) (laws.only_now old.disk) (refl, refl))) (λ tells.
-        makes_still laws old.disk old.gate s.history plain (held.at_rest tells) runs
-        (laws.reads_image tells old.disk Journal) opened.limit last call new.disk same (rule true) (kept tells) told)
+        grown_by call s.history rule (λ _. holds) told
+        (subst (λ (z : D). KeepsTo d old.disk z (KeepsSlots (d.state old.disk))) (sym same) (started d old.disk (KeepsSlots (d.state old.disk)) (laws.only_now old.disk) (refl, refl)))
+        (makes_still laws old.disk old.gate s.history plain (held.at_rest s.tells) runs
+        (laws.reads_image s.tells old.disk Journal) opened.limit last call new.disk same (rule true) kept told)
 
     kept_at : (after : List Entry) (t number : ℕ) (said : Answer) → HoldsHistory d after new → IsAnswerOf d.moment (call_time t number) new said
-        → IsTrue d.honest → IsKept d new.disk (Ok said)
-    kept_at after t number said holds made tells = (
+        → IsKept d new.disk (Ok said)
+    kept_at after t number said holds made = (
       made.disk_moment,
       after,
       sym (made.position ∙ holds.end),
-      λ image h is has. unique h after image has (each_image header (d.state new.disk) new.gate after (holds.at_rest tells) image is),
+      λ image h is has. unique h after image has (each_image header (d.state new.disk) new.gate after (holds.at_rest s.tells) image is),
     )
 
     abbrev call_of : Ask → Result Answer DeskFault → Call
@@ -216,10 +235,10 @@ module _ {D C : Type 0} {d : disks.Ghosts D} (laws : DiskLaws d) where
               let rule : (b : Bool) → Legal b opened.limit last (call ∷ []) s.history after = λ b. one_legal b opened.limit last call s.history after plain runs
               (legal_at question said after made grows.holds.end
               (reply_of question one asks said.reply after (record { told = reply; grows = inl (accepted, refl); fits = room fits })) b) in
-              grown_by call after rule (λ _. grows.holds) (λ not is. absurd (both_ways false refl is)) tt (λ tells. adding_keeps s.history e (grows.run tells)) (λ tells.
-              makes_grown laws old.disk old.gate s.history plain (held.at_rest tells) runs (laws.reads_image tells old.disk Journal) opened.limit last call
-              e grows.holds.office.plain (run_is after grows.holds.office.is_run) (rule true) new.disk new.gate (grows.run tells) (grows.holds.at_rest tells)
-              (kept_at after t number said grows.holds made tells) (later, tt))
+              grown_by call after rule (λ _. grows.holds) tt (adding_keeps s.history e (grows.run s.tells))
+              (makes_grown laws old.disk old.gate s.history plain (held.at_rest s.tells) runs (laws.reads_image s.tells old.disk Journal) opened.limit last call
+              e grows.holds.office.plain (run_is after grows.holds.office.is_run) (rule true) new.disk new.gate (grows.run s.tells) (grows.holds.at_rest s.tells)
+              (kept_at after t number said grows.holds made) (later, tt))
 
           carried : (said : Answer) → IsAnswerOf d.moment (call_time t number) new said → CarriesOut d t one plain (from_first s.history) old new said.reply → Next (call_of question (Ok said))
           carried said made is = ⊎_elim (λ grew. grown said made is.told is.fits grew.0 grew.1)
@@ -245,12 +264,9 @@ module _ {D C : Type 0} {d : disks.Ghosts D} (laws : DiskLaws d) where
               asked_and question one (λ c. IsWritten (moment_after number plain.last) c plain s.history (s.history ++ e ∷ [])) asks written in
               let kept = one_legal true opened.limit last call s.history (s.history ++ e ∷ []) plain runs (command_is, rose, λ _. inr there) in
               let told : IsToldBy (d.fault_count new.disk) call.said = omega (arith, is) in
-              grown_by call s.history rule (λ not. absurd (both_ways true not refl)) (λ not _ history.
-              one_legal d.honest opened.limit last call s.history history plain runs
-              (command_is, rose, λ tells. absurd (not tells))) told
-              (λ tells. adding_keeps s.history e (fails.run tells)) (λ tells.
-              makes_failed laws old.disk old.gate s.history plain (held.at_rest tells) runs (laws.reads_image tells old.disk Journal) opened.limit last call
-              e fails.next.0 (run_more s.history e plain fails.next.0 runs fails.next.1) kept new.disk (rule true) (fails.run tells) tt (later, told))
+              grown_by call s.history rule (λ not. absurd (both_ways true not refl)) told (adding_keeps s.history e (fails.run s.tells))
+              (makes_failed laws old.disk old.gate s.history plain (held.at_rest s.tells) runs (laws.reads_image s.tells old.disk Journal) opened.limit last call
+              e fails.next.0 (run_more s.history e plain fails.next.0 runs fails.next.1) kept new.disk (rule true) (fails.run s.tells) tt (later, told))
 
         done : (question : Ask) (said : Answer) → IsAnswerOf d.moment (call_time t number) new said → IsDoneAt d t question plain (from_first s.history) old new said.reply
             → Next (call_of question (Ok said))
@@ -272,9 +288,9 @@ module _ {D C : Type 0} {d : disks.Ghosts D} (laws : DiskLaws d) where
         kept_call question (Err (faults.StoreFault None count)) keeps = absurd keeps
         kept_call question (Err faults.JournalFull) keeps =
             still_by (call_of question (Err faults.JournalFull)) refl keeps.1.disk keeps.1.holds
-            (λ b. (subst (λ (n : ℕ). IsFull n question plain s.history) s.limit (full_at t old question plain s.history held.office.stands held.end keeps.0), refl)) tt (λ tells. tt)
+            (λ b. (subst (λ (n : ℕ). IsFull n question plain s.history) s.limit (full_at t old question plain s.history held.office.stands held.end keeps.0), refl)) tt tt
         kept_call question (Err (faults.Broken fault)) keeps = absurd keeps
-        kept_call question (Err faults.NoMemory) keeps = still_by (call_of question (Err faults.NoMemory)) refl keeps.disk keeps.holds (λ b. refl) tt (λ tells. tt)
+        kept_call question (Err faults.NoMemory) keeps = still_by (call_of question (Err faults.NoMemory)) refl keeps.disk keeps.holds (λ b. refl) tt tt
 
       pub answers_call : (question : Ask) (said : Result Answer DeskFault) → AnswersAt d (call_time t number) question plain (from_first s.history) old new said → Next (call_of question said)
       answers_call question said (inl in_time) = kept_call in_time.0 question said in_time.1

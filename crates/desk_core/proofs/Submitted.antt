@@ -8,8 +8,6 @@ use Rattle.std.proofs.lemmas.Bool.{both_ways}
 use Rattle.office_base.specs.Faults.{Rose}
 use Rattle.moments.specs.Time.{end_of_time}
 use Rattle.disk_core.specs.declared.disk.Disk as disks
-use Rattle.disk_core.specs.Files.{State}
-use Rattle.disk_core.specs.Fronts.{Narrower}
 use Rattle.disk_core.specs.Moments.{KeepsTo}
 use Rattle.disk_core.proofs.Laws.{DiskLaws}
 use Rattle.disk_core.proofs.Time.{started, weakened}
@@ -33,18 +31,22 @@ use Rattle.desk_core.specs.declared.fault.DeskFault.TheVariants as faults
 use Rattle.desk_core.specs.Answers.{Answer}
 use Rattle.desk_core.specs.Asked.{Asked, asked, entry_of, IsNotKept, Repeats}
 use Rattle.desk_core.specs.Calls.{moment_after}
-use Rattle.desk_core.specs.Submitting.{LeavesDisk, HasStoreReason, IsAcceptedAt, PassesLimit, IsAgain, IsClockEnd, KeepsOrAdds, HasCauses, IsOffice, IsUnopened}
+use Rattle.office_machine.specs.Once as machine
+use Rattle.desk_core.specs.Submitting.{RepliesInTime, LeavesDisk, HasStoreReason, IsAcceptedAt, PassesLimit, IsAgain, IsClockEnd, KeepsOrAdds, HasCauses, IsOffice, IsUnopened}
 use Rattle.desk_core.specs.Desk.{DeskView, HoldsTail, HoldsHistory, IsReady, IsLast, IsStamped, TellsFault, stale_after}
 use Rattle.desk_core.specs.Offices.{Tail, from_first, with_entries}
-use Rattle.desk_core.specs.Answering.{call_time, CarriesOut, StoreFails, IsDoneAt, HasFailed, AnswersInTime, AnswersAt, AnswersAsk}
+use Rattle.desk_core.specs.Answering.{call_time, AddsOrNot, CarriesOut, StoreFails, IsDoneAt, HasFailed, AnswersInTime, AnswersAt, AnswersAsk}
 use Rattle.plain_office.proofs.Runs.{Token, step_kept, run_more}
 use Rattle.meter_journal.specs.History.{header, HasEntries, BeforeOrAfter}
 use Rattle.desk_core.specs.Numbers.{IsNumber}
 use Rattle.entry_codec.specs.Spelling.{spelling}
 use Rattle.desk_core.proofs.Adding.{asked_and}
-use Rattle.desk_core.proofs.Offices.{fresh_in, run_is}
+use Rattle.desk_core.proofs.Offices.{fresh_in, run_is, run_on}
 use Rattle.desk_core.proofs.OneCallMore.{some_and}
-use Rattle.desk_core.specs.Histories.{HasAcceptedHistory, IsSound}
+use Rattle.desk_core.specs.Histories.{HasAcceptedHistory}
+use Rattle.desk_core.specs.Reading.{StartsOn, IsOpenable}
+use Rattle.desk_core.specs.Serving.{KeepsSlots}
+use Rattle.desk_core.proofs.Openable.{starts_same, holds_openable}
 use Rattle.desk_core.proofs.Serving.{rest_image, some_run}
 
 accepted_not : (reply : Result Reply Refusal) → IsTrue (is_accepted reply) → is_accepted reply ≡ false → ⊥
@@ -200,44 +202,92 @@ module _ {D : Type 0} {C : Type 0} (d : disks.Ghosts D)
   ready_on question (Ok said) fine (inr past) = (before.entries, past.1.2.holds)
   ready_on question (Err fault) fine (inr past) = absurd past.1
 
--- ---- histories of images
+-- ---- it can be opened again
 
-pub holds_sound : {D C : Type 0} (d : disks.Ghosts D) (history : List Entry) (desk : DeskView D C) → HoldsHistory d history desk → IsTrue d.honest → IsSound (d.state desk.disk)
-holds_sound d history desk holds tells image is =
-    (history, rest_image (d.state desk.disk) desk.gate history holds.office.plain (holds.at_rest tells) (run_is history holds.office.is_run) image is)
+module _ {D : Type 0} {C : Type 0} (d : disks.Ghosts D) (tells : IsTrue d.honest)
+    (t number : ℕ) (before : Tail) (old new : DeskView D C) (hold : HoldsTail d before old) (starts : StartsOn (d.state old.disk) before.office before.head) where
+  abbrev Openable : Type 0
+  Openable = IsOpenable (d.state new.disk)
 
-pub narrower_sound : (first s : State) → IsSound first → Narrower first s → IsSound s
-narrower_sound first s sound narrow image is = sound image (narrow.journal image is)
+  -- slots that are as they were
+  pub starts_on : KeepsSlots (d.state old.disk) (d.state new.disk) → StartsOn (d.state new.disk) before.office before.head
+  starts_on same = starts_same (d.state old.disk) (d.state new.disk) before.office before.head same.0 same.1 starts
 
-module _ {D : Type 0} {C : Type 0} (d : disks.Ghosts D)
-    (t number : ℕ) (before : List Entry) (old new : DeskView D C) (hold : HoldsHistory d before old) where
-  command_sound : (call : Asked) → StoreFails d hold.office.plain (from_first before) (entry_of t call) old new → IsTrue d.honest → IsSound (d.state new.disk)
-  command_sound call fails tells = λ image is.
+  holds_on : (entries : List Entry) → HoldsTail d (with_entries before entries) new → KeepsSlots (d.state old.disk) (d.state new.disk) → Openable
+  holds_on entries holds same = holds_openable d new tells (with_entries before entries) holds (starts_on same)
+
+  command_openable : (call : Asked) → StoreFails d hold.office.plain before (entry_of t call) old new → Openable
+  command_openable call fails =
       let entry = entry_of t call in
-      ⊎_elim (λ (e : HasEntries header before image). (before, record { entries = e; accepted = some_run before hold.office.plain (run_is before hold.office.is_run) }))
-      (λ (e : HasEntries header (before ++ entry ∷ []) image).
-      (before ++ entry ∷ [], record { entries = e; accepted = some_run (before ++ entry ∷ []) fails.next.0 (run_more before entry hold.office.plain fails.next.0 (run_is before hold.office.is_run) fails.next.1) }))
-      ((fails.run tells).now.journal image is)
+      let now = (fails.run tells).now in
+      record {
+        office = before.office;
+        head = before.head;
+        starts = starts_on (now.slot0, now.slot1);
+        tails = λ image is. ⊎_elim
+            (λ (e : HasEntries before.head before.entries image). (before.entries, e, (hold.office.plain, hold.office.is_run)))
+            (λ (e : HasEntries before.head (before.entries ++ entry ∷ []) image).
+            (before.entries ++ entry ∷ [], e, (fails.next.0, run_on (Some before.office) before.entries entry hold.office.plain fails.next.0 hold.office.is_run fails.next.1)))
+            (now.journal image is);
+      }
 
-  failed_sound : (question : Ask) → HasFailed d t question hold.office.plain (from_first before) old new → IsTrue d.honest → IsSound (d.state new.disk)
-  failed_sound question fails tells = some_and (asked question) (λ call. StoreFails d hold.office.plain (from_first before) (entry_of t call) old new) (λ call one. command_sound call one tells) fails
+  failed_openable : (question : Ask) → HasFailed d t question hold.office.plain before old new → Openable
+  failed_openable question fails = some_and (asked question) (λ call. StoreFails d hold.office.plain before (entry_of t call) old new) command_openable fails
 
-  pub sound_on : (question : Ask) (said : Result Answer DeskFault) → AnswersAt d (call_time t number) question hold.office.plain (from_first before) old new said → IsTrue d.honest → IsSound (d.state new.disk)
-  sound_on question (Ok said) answers tells =
-      let on = ready_on d t number hold.office.plain (from_first before) old new question (Ok said) refl answers in
-      holds_sound d on.0 new on.1 tells
-  sound_on question (Err (faults.StoreFault (Some told) count)) answers tells =
-      failed_sound question (in_time_of d t number question hold.office.plain (from_first before) old new (faults.StoreFault (Some told) count) answers).1.2 tells
-  sound_on question (Err (faults.StoreFault None count)) answers tells =
-      absurd (in_time_of d t number question hold.office.plain (from_first before) old new (faults.StoreFault None count) answers).1
-  sound_on question (Err faults.JournalFull) answers tells =
-      let on = ready_on d t number hold.office.plain (from_first before) old new question (Err faults.JournalFull) refl answers in
-      holds_sound d on.0 new on.1 tells
-  sound_on question (Err (faults.Broken fault)) answers tells =
-      absurd (in_time_of d t number question hold.office.plain (from_first before) old new (faults.Broken fault) answers).1
-  sound_on question (Err faults.NoMemory) answers tells =
-      let on = ready_on d t number hold.office.plain (from_first before) old new question (Err faults.NoMemory) refl answers in
-      holds_sound d on.0 new on.1 tells
+  pub openable_on : (question : Ask) (said : Result Answer DeskFault) → AnswersAt d (call_time t number) question hold.office.plain before old new said
+      → KeepsSlots (d.state old.disk) (d.state new.disk) → Openable
+  openable_on question (Ok said) answers same =
+      let on = ready_on d t number hold.office.plain before old new question (Ok said) refl answers in
+      holds_on on.0 on.1 same
+  openable_on question (Err (faults.StoreFault (Some told) count)) answers same =
+      failed_openable question (in_time_of d t number question hold.office.plain before old new (faults.StoreFault (Some told) count) answers).1.2
+  openable_on question (Err (faults.StoreFault None count)) answers same =
+      absurd (in_time_of d t number question hold.office.plain before old new (faults.StoreFault None count) answers).1
+  openable_on question (Err faults.JournalFull) answers same =
+      let on = ready_on d t number hold.office.plain before old new question (Err faults.JournalFull) refl answers in
+      holds_on on.0 on.1 same
+  openable_on question (Err (faults.Broken fault)) answers same =
+      absurd (in_time_of d t number question hold.office.plain before old new (faults.Broken fault) answers).1
+  openable_on question (Err faults.NoMemory) answers same =
+      let on = ready_on d t number hold.office.plain before old new question (Err faults.NoMemory) refl answers in
+      holds_on on.0 on.1 same
+
+-- ---- the slots stay
+
+module _ {D : Type 0} {C : Type 0} (d : disks.Ghosts D) (tells : IsTrue d.honest)
+    (t number : ℕ) (office : Office) (before : Tail) (old new : DeskView D C) where
+  abbrev Stayed : Type 0
+  Stayed = KeepsSlots (d.state old.disk) (d.state new.disk)
+
+  same_slots : new.disk ≡ old.disk → Stayed
+  same_slots same = (ap (λ (z : D). (d.state z).slot0) same, ap (λ (z : D). (d.state z).slot1) same)
+
+  added_slots : (entry : Entry) → AddsOrNot d before entry old.disk new.disk → Stayed
+  added_slots entry run = (run.now.slot0, run.now.slot1)
+
+  carried_slots : (call : Asked) (said : Answer) → CarriesOut d t call office before old new said.reply → Stayed
+  carried_slots call said is = ⊎_elim (λ grew. added_slots (entry_of t call) (grew.1.run tells)) (λ stayed. same_slots stayed.1.disk) is.grows
+
+  done_slots : (question : Ask) (said : Answer) → IsDoneAt d t question office before old new said.reply → Stayed
+  done_slots (ask.Command command) said is = carried_slots _ said is
+  done_slots (ask.Once token command) said is = carried_slots _ said is
+  done_slots (ask.Query query) said is = same_slots is.1.disk
+
+  failed_slots : (question : Ask) → HasFailed d t question office before old new → Stayed
+  failed_slots question fails = some_and (asked question) (λ call. StoreFails d office before (entry_of t call) old new) (λ call one. added_slots (entry_of t call) (one.run tells)) fails
+
+  kept_slots : (question : Ask) (said : Result Answer DeskFault) → AnswersInTime d (call_time t number) question office before old new said → Stayed
+  kept_slots question (Ok said) keeps = done_slots question said keeps.1
+  kept_slots question (Err (faults.StoreFault (Some told) count)) keeps = failed_slots question keeps.2
+  kept_slots question (Err (faults.StoreFault None count)) keeps = absurd keeps
+  kept_slots question (Err faults.JournalFull) keeps = same_slots keeps.1.disk
+  kept_slots question (Err (faults.Broken fault)) keeps = absurd keeps
+  kept_slots question (Err faults.NoMemory) keeps = same_slots keeps.disk
+
+  pub slots_stay : (question : Ask) (said : Result Answer DeskFault) → AnswersAt d (call_time t number) question office before old new said → Stayed
+  slots_stay question said (inl in_time) = kept_slots question said in_time.1
+  slots_stay question (Ok said) (inr past) = same_slots past.1.2.disk
+  slots_stay question (Err fault) (inr past) = absurd past.1
 
 -- ---- what a crash inside the call leaves
 
@@ -376,53 +426,61 @@ module _ {D C : Type 0} {d : disks.Ghosts D} {number : ℕ} {question : Ask} {ol
   abbrev told : DeskView D C
   told = record old { clock = asks.clock }
 
-  abbrev before : List Entry
-  before = ready.0
+  abbrev before : Tail
+  before = ready.tail
 
-  abbrev hold : HoldsHistory d before told
-  hold = record { office = ready.1.office; end = ready.1.end; small = ready.1.small; limit = ready.1.limit; at_rest = ready.1.at_rest }
+  abbrev hold : HoldsTail d before told
+  hold = record { office = ready.holds.office; end = ready.holds.end; each = ready.holds.each; small = ready.holds.small; limit = ready.holds.limit; at_rest = ready.holds.at_rest }
 
-  abbrev one : AnswersAt d (call_time asks.t number) question hold.office.plain (from_first before) told new said
-  one = asks.answers (from_first before) hold
+  abbrev one : AnswersAt d (call_time asks.t number) question hold.office.plain before told new said
+  one = asks.answers before hold
 
   pub stamped_by : IsStamped said new.gate (d.moment new.disk)
-  stamped_by = stamped d asks.t number question hold.office.plain (from_first before) told new said one
+  stamped_by = stamped d asks.t number question hold.office.plain before told new said one
 
   pub numbered_by : (a b : Option (List ℕ)) → Appends a b (number ∷ []) → IsNumber a b said
-  numbered_by a b more = numbered d asks.t number question hold.office.plain (from_first before) told new a b said more one
+  numbered_by a b more = numbered d asks.t number question hold.office.plain before told new a b said more one
 
   pub last_by : IsLast number said
-  last_by = last_told d asks.t number question hold.office.plain (from_first before) told new number said refl one
+  last_by = last_told d asks.t number question hold.office.plain before told new number said refl one
+
+  slots_by : IsTrue d.honest → KeepsSlots (d.state old.disk) (d.state new.disk)
+  slots_by tells = slots_stay d tells asks.t number hold.office.plain before told new question said one
 
   pub ready_by : stale_after false said ≡ false → IsReady d new
-  ready_by fine = ready_on d asks.t number hold.office.plain (from_first before) told new question said fine one
+  ready_by fine =
+      let on = ready_on d asks.t number hold.office.plain before told new question said fine one in
+      record { tail = with_entries before on.0; holds = on.1; takes = ready.takes; starts = λ tells. starts_on d tells asks.t number before told new hold (ready.starts tells) (slots_by tells) }
 
   pub tells_by : (k : clocks.Ghosts C) → DiskLaws d → k.last new.clock ≡ number
       → k.count new.clock ≡ min (k.count old.clock + 1) (2 ^ 64 - 1)
       → (PassesLimit (moment_after (k.last new.clock) old.office.records.last) old question
       → (said ≡ Err faults.JournalFull) ⊎ (said ≡ Err faults.NoMemory))
+      → ((p : Office) → machine.StandsFor old.office p → moment_after (k.last new.clock) old.office.records.last < end_of_time
+      → RepliesInTime (moment_after (k.last new.clock) old.office.records.last) question p said new.office)
       → HasCauses d k old question said new
-  tells_by k laws last_is once full =
+  tells_by k laws last_is once full replies =
       let now_is : asks.t ≡ moment_after (k.last new.clock) old.office.records.last = asks.at ∙ ap (λ (n : ℕ). moment_after n old.office.records.last) (sym last_is) in
       record {
         once = once;
-        quiet = leaves d asks.t number hold.office.plain (from_first before) told new question said one;
+        quiet = leaves d asks.t number hold.office.plain before told new question said one;
         inside = λ tells b holds.
-            let other : HoldsHistory d b told = record { office = holds.office; end = holds.end; small = holds.small; limit = holds.limit; at_rest = holds.at_rest } in
+            let other : HoldsHistory d b told = record { office = holds.office; end = holds.end; each = holds.each; small = holds.small; limit = holds.limit; at_rest = holds.at_rest } in
             subst (λ (t : ℕ). KeepsTo d old.disk new.disk (KeepsOrAdds t question b)) now_is
             (inside_of laws tells asks.t number b told new other question said (asks.answers (from_first b) other));
-        reason = reason d asks.t number hold.office.plain (from_first before) told new question said asks.at one;
-        ended = subst (λ (t : ℕ). end_of_time ≤ t → IsClockEnd t said) now_is (λ past. ended_so d asks.t number question hold.office.plain (from_first before) told new said past one);
+        reason = reason d asks.t number hold.office.plain before told new question said asks.at one;
+        ended = subst (λ (t : ℕ). end_of_time ≤ t → IsClockEnd t said) now_is (λ past. ended_so d asks.t number question hold.office.plain before told new said past one);
         repeats = λ b holds first again lt.
-            let other : HoldsHistory d b told = record { office = holds.office; end = holds.end; small = holds.small; limit = holds.limit; at_rest = holds.at_rest } in
+            let other : HoldsHistory d b told = record { office = holds.office; end = holds.end; each = holds.each; small = holds.small; limit = holds.limit; at_rest = holds.at_rest } in
             repeated_so d asks.t number (from_first b) told new other question first again (omega (arith, now_is, lt)) said (asks.answers (from_first b) other);
         full = full;
+        replies = replies;
         full_alone = subst (λ (t : ℕ). said ≡ Err faults.JournalFull → PassesLimit t old question) now_is
-            (full_alone d asks.t number question hold.office.plain (from_first before) told new said one);
+            (full_alone d asks.t number question hold.office.plain before told new said one);
       }
 
-  pub sound_by : IsTrue d.honest → IsSound (d.state new.disk)
-  sound_by tells = sound_on d asks.t number before told new hold question said one tells
+  pub openable_by : IsTrue d.honest → IsOpenable (d.state new.disk)
+  openable_by tells = openable_on d tells asks.t number before told new hold (ready.starts tells) question said one (slots_by tells)
 
 -- an office tells the same of a call once it is marked as stale or not
 pub marked_causes : {D C : Type 0} (d : disks.Ghosts D) (k : clocks.Ghosts C) (office new : DeskView D C) (question : Ask) (said : Result Answer DeskFault) (stale : Bool)
@@ -435,6 +493,7 @@ marked_causes d k office new question said stale causes = record {
   ended = causes.ended;
   repeats = causes.repeats;
   full = causes.full;
+  replies = causes.replies;
   full_alone = causes.full_alone;
 }
 
@@ -460,7 +519,7 @@ office_told (Err faults.NoMemory) question view before after told = told
 -- an office is opened again without a fault of the disk
 office_quiet : {D C : Type 0} (d : disks.Ghosts D) (old office : DeskView D C) → IsOffice d old office → d.fault_count office.disk ≡ d.fault_count old.disk
 office_quiet d old office (inl own) = ap (λ (x : DeskView _ _). d.fault_count x.disk) own.1
-office_quiet d old office (inr again) = again.1.quiet
+office_quiet d old office (inr again) = again.1.reads.quiet
 
 pub asked_told : {D C : Type 0} (d : disks.Ghosts D) (old office : DeskView D C) (question : Ask) (said : Result Answer DeskFault) (after : ℕ) → IsOffice d old office
     → HasStoreReason said question office.office (d.fault_count office.disk) after → TellsFault said (d.fault_count old.disk) after

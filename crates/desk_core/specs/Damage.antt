@@ -1,16 +1,19 @@
 -- Why a journal is not opened, and what was read of one.
-use Rattle.std.specs.Prelude.{◌≡◌, ◌^◌, ◌≤◌, ◌⊎◌, ℕ, List, Some, None, IsTrue}
+use Rattle.std.specs.Prelude.{◌≡◌, ◌⊎◌, ℕ, ◌^◌, ◌<◌, ◌≤◌, List, [], length, take, Some, None, IsTrue}
+use Rattle.std.specs.List.{AllByRecursion}
 use Rattle.disk_core.specs.declared.disk.Disk as disks
-use Rattle.disk_core.specs.Files.{synced_file}
+use Rattle.disk_core.specs.Files.{State, synced_file}
 use Rattle.plain_office.specs.Office.{Office}
-use Rattle.plain_office.specs.Run.{run, accept}
+use Rattle.plain_office.specs.Run.{run, run_from, accept}
 use Rattle.office_types.specs.declared.command.Entry.{Entry}
 use Rattle.office_machine.specs.Once.{OfficeView, StandsFor}
+use Rattle.entry_codec.specs.Spelling.{EntryFits}
 use Rattle.meter_journal.specs.declared.fault.OpenFault.{OpenFault}
 use Rattle.meter_journal.specs.declared.fault.OpenFault.TheVariants as faults
 use Rattle.meter_journal.specs.History.{header, end_gate, IsAtRest}
 use Rattle.meter_journal.specs.Reading.{IsMade, IsNotMade, IsForeign, HasPrefix, frame_at, Broken, Whole}
-use Rattle.desk_core.specs.Offices.{StandsAfter}
+use Rattle.desk_core.specs.Offices.{StandsSince}
+use Rattle.desk_core.specs.Reading.{Loaded, IsLoadedIn, Begins, place_of}
 
 -- Damaged at this gate, and at none before it: before the gate stand entries that the office accepts. The file ends
 -- before the gate, or the gate is open and no whole frame stands there, or an entry that the office does not accept
@@ -23,6 +26,33 @@ pub record IsDamagedAt (at : ℕ) (file : List ℕ) : Type 0 where
   pub is_run : run history ≡ Some office
   pub breaks : (frame_at at file ≡ Broken)
       ⊎ ((entry : Entry) × (next : ℕ) × (frame_at at file ≡ Whole entry next) × (accept office entry ≡ None))
+
+-- where reading starts: at this place, in bytes from the start of the file, on this office
+pub record Start : Type 0 where
+  pub office : Office
+  pub place : ℕ
+
+-- Damaged at this gate, and at none before it from the start on: between stand entries that the office accepts. The file
+-- ends before the gate, or the gate is open and no whole frame stands there, or an entry that the office does not accept
+-- at its place.
+pub record IsBrokenFrom (start : Start) (at : ℕ) (file : List ℕ) : Type 0 where
+  pub inside : start.place ≤ length file
+  pub entries : List Entry
+  pub office : Office
+  pub before : HasPrefix (take start.place file) entries at file
+  pub is_run : run_from (Some start.office) entries ≡ Some office
+  pub breaks : (frame_at at file ≡ Broken)
+      ⊎ ((entry : Entry) × (next : ℕ) × (frame_at at file ≡ Whole entry next) × (accept office entry ≡ None))
+
+-- so it is, or the file ends before the place at which reading starts, and this is that place
+abbrev pub IsDamagedFrom : Start → ℕ → List ℕ → Type 0
+IsDamagedFrom start at file = ((length file < start.place) × (at ≡ start.place)) ⊎ IsBrokenFrom start at file
+
+-- a made journal that is read from where this says is damaged at this gate, whichever office the snapshot shows
+pub record IsDamagedBehind (loaded : Loaded) (at : ℕ) (file : List ℕ) : Type 0 where
+  pub made : IsMade file
+  pub damaged : (office : Office) → Begins loaded office
+      → IsDamagedFrom (record { office = office; place = place_of loaded }) at file
 
 -- why the entry at this gate is not taken: memory is wanting, or the journal is damaged there, since no office that
 -- this one stands for accepts it: its moment is before the last one, a reply is kept under its token, or its command is
@@ -40,22 +70,36 @@ OpenFails (faults.Damaged at) file = IsDamagedAt at file
 OpenFails faults.StoreFault file = Unit {0}
 OpenFails faults.NoMemory file = Unit {0}
 
--- why reading the entries of a made file failed
-abbrev pub ReplayFails : OpenFault → List ℕ → Type 0
-ReplayFails faults.NotMade file = ⊥
-ReplayFails faults.Foreign file = ⊥
-ReplayFails (faults.Damaged at) file = IsDamagedAt at file
-ReplayFails faults.StoreFault file = Unit {0}
-ReplayFails faults.NoMemory file = Unit {0}
+-- why no desk is opened on a disk in this state: its journal is read from where its slots say
+abbrev pub OpenFailsOn : OpenFault → State → Type 0
+OpenFailsOn faults.NotMade s = IsNotMade s.journal.seen
+OpenFailsOn faults.Foreign s = IsForeign s.journal.seen
+OpenFailsOn (faults.Damaged at) s =
+    (loaded : Loaded) × IsLoadedIn s loaded × IsDamagedBehind loaded at s.journal.seen
+OpenFailsOn faults.StoreFault s = Unit {0}
+OpenFailsOn faults.NoMemory s = Unit {0}
 
--- all entries were read
-pub record HasReplayed {D : Type 0} (d : disks.Ghosts D) (old new : D) (gate : ℕ) (office : OfficeView) : Type 0 where
-  pub history : List Entry
-  pub office_is : StandsAfter history office
-  pub end : gate ≡ end_gate header history
-  pub small : gate ≤ 2 ^ 45
+-- why the entries behind this place of a made file could not be done again on what this view stands for
+abbrev pub ReplayFails : OpenFault → OfficeView → ℕ → List ℕ → Type 0
+ReplayFails faults.NotMade first place file = ⊥
+ReplayFails faults.Foreign first place file = ⊥
+ReplayFails (faults.Damaged at) first place file = (office : Office) → StandsFor first office
+    → IsDamagedFrom (record { office = office; place = place }) at file
+ReplayFails faults.StoreFault first place file = Unit {0}
+ReplayFails faults.NoMemory first place file = Unit {0}
+
+-- all entries behind this place were read, and done again on what this view stands for
+pub record HasReplayed {D : Type 0} (d : disks.Ghosts D) (first : OfficeView) (place : ℕ) (old new : D) (gate : ℕ)
+    (office : OfficeView) : Type 0 where
+  pub entries : List Entry
+  pub each : AllByRecursion EntryFits entries
+  pub stands : (start : Office) → StandsFor first start → StandsSince start entries office
+  pub head : List ℕ
+  pub place_is : length head ≡ place
+  pub end : gate ≡ end_gate head entries
+  pub small : (entries ≡ []) ⊎ (gate ≤ 2 ^ 45)
   pub at_rest : IsTrue d.honest → (file : List ℕ) → (d.state old).journal ≡ synced_file file → IsMade file
-      → IsAtRest header (d.state new) gate history
+      → (head ≡ take place file) × IsAtRest head (d.state new) gate entries
 
 -- the bytes are no journal, or a damaged one
 abbrev pub IsBroken : OpenFault → Type 0

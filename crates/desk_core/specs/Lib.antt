@@ -3,6 +3,7 @@ pub mod Answers
 pub mod Asked
 pub mod Calls
 pub mod Clocks
+pub mod Closing
 pub mod Damage
 pub mod Desk
 pub mod Histories
@@ -10,6 +11,8 @@ pub mod Looking
 pub mod Numbers
 pub mod Offices
 pub mod Opening
+pub mod Reading
+pub mod Rereading
 pub mod Runs
 pub mod Serving
 pub mod Submitting

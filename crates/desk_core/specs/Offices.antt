@@ -1,8 +1,10 @@
 -- The office in memory after some entries of a journal.
-use Rattle.std.specs.Prelude.{◌≡◌, ◌≤◌, ◌^◌, ℕ, List, ◌∷◌, [], ◌++◌, length, Some}
-use Rattle.plain_office.specs.Office.{Office, empty_office}
+use Rattle.std.specs.Prelude.{◌≡◌, ◌≤◌, ◌^◌, ℕ, true, List, ◌∷◌, [], ◌++◌, length, Some}
+use Rattle.std.specs.List.{AllByRecursion}
+use Rattle.plain_office.specs.Office.{Office, KeptReply, empty_office}
 use Rattle.plain_office.specs.Run.{run_from}
 use Rattle.office_types.specs.declared.command.Entry.{Entry}
+use Rattle.office_types.specs.Tokens.{takes_token}
 use Rattle.office_machine.specs.Once.{OfficeView, StandsFor}
 use Rattle.meter_journal.specs.History.{header}
 
@@ -27,6 +29,10 @@ with_entries tail entries = record { office = tail.office; head = tail.head; ent
 -- one entry more
 abbrev pub with_entry : Tail → Entry → Tail
 with_entry tail entry = with_entries tail (tail.entries ++ entry ∷ [])
+
+-- each of these replies is to a command that may carry a token, as every reply is that an office keeps
+abbrev pub TakeTokens : List KeptReply → Type 0
+TakeTokens kept = AllByRecursion (λ one. takes_token one.command ≡ true) kept
 
 -- it stands for the plain office after these entries, from this office on, with its kept replies, and counts no more
 -- commands: an office that is restored counts from 0

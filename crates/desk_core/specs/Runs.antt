@@ -1,5 +1,5 @@
 -- What an office does from its opening to its closing: its calls are legal, and what a crash leaves has their history.
-use Rattle.std.specs.Prelude.{◌≡◌, ℕ, ◌-◌, ◌^◌, ◌<◌, ◌≤◌, Bool, false, List, [], ◌∷◌, IsTrue}
+use Rattle.std.specs.Prelude.{◌≡◌, ℕ, ◌-◌, ◌^◌, ◌<◌, ◌≤◌, Bool, false, List, [], ◌∷◌, Result, IsTrue}
 use Rattle.std.specs.Io.KnownBytes.{Appends}
 use Rattle.disk_core.specs.declared.disk.Disk as disks
 use Rattle.disk_core.specs.Files.{State, IsImage}
@@ -10,10 +10,13 @@ use Rattle.desk_core.specs.declared.clock.Clock as clocks
 use Rattle.desk_core.specs.Answers.{Call}
 use Rattle.desk_core.specs.Submitting.{Submits}
 use Rattle.desk_core.specs.Calls.{Legal}
+use Rattle.slots.specs.Causes.{HasSaveCause}
+use Rattle.slots.specs.declared.fault.SaveFault.{SaveFault}
+use Rattle.desk_core.specs.Closing.{Closes}
 use Rattle.desk_core.specs.Desk.{DeskView, stale_after}
-use Rattle.desk_core.specs.Histories.{HasAcceptedHistory, IsPrefixOf, IsPrefixButOne}
+use Rattle.desk_core.specs.Histories.{HasAcceptedHistory, IsSound, IsPrefixOf, IsPrefixButOne}
 use Rattle.desk_core.specs.Numbers.{AreNumbers}
-use Rattle.desk_core.specs.Opening.{Opens, opened_with}
+use Rattle.desk_core.specs.Opening.{Opens}
 use Rattle.desk_core.specs.Turns.{Moves}
 use Rattle.desk_core.specs.Serving.{Opened, Recoverable, AreToldBy, KeepsSlots, DiskServes}
 
@@ -54,8 +57,13 @@ module _ {D : Type 0} (d : disks.Ghosts D) where
     -- at the return, where the desk is not stale
     pub all : stale_by false calls ≡ false → (image : List ℕ) → IsImage (d.state new).journal image
         → HasAcceptedHistory history image
-    -- the files of checkpoints stay
-    pub slots : KeepsTo d old new (KeepsSlots (d.state old))
+    -- up to the closing the files of checkpoints stay
+    pub closing : D
+    pub slots : KeepsTo d old closing (KeepsSlots (d.state old))
+    -- from it on the journal file stays
+    pub closed : KeepsTo d closing new (λ s. s.journal ≡ (d.state closing).journal)
+    -- at every moment the files are those of an office alone
+    pub sound : KeepsTo d old new IsSound
 
 -- what stands under an office: its disk and its clock
 pub record Outside (D C : Type 0) : Type 0 where
@@ -69,25 +77,31 @@ outside disk clock = record { disk = disk; clock = clock }
 module _ {D C : Type 0} (d : disks.Ghosts D) (k : clocks.Ghosts C) where
   -- A desk was opened over what stands under the office, and each of these calls, in order, was one call of it: so each
   -- has the cause that a call of a desk has, and a fault of the store comes only in a call in which the disk failed.
-  pub record MovesBy (limit : ℕ) (old new : Outside D C) (opened : Opened) (calls : List Call) : Type 0 where
+  pub record MovesBy (limit : ℕ) (old new : Outside D C) (calls : List Call) : Type 0 where
     pub first : DeskView D C
     pub opens : Opens d old.disk old.clock limit first
-    pub opened_is : opened ≡ opened_with d opens.history first
     pub last : DeskView D C
     pub moved : Moves (Submits d k) first calls last
-    pub disk : new.disk ≡ last.disk
+    pub saved : Result (Unit {0}) SaveFault
+    pub closes : Closes d last new.disk saved
+    pub cause : HasSaveCause (d.fault_count last.disk) (d.fault_count new.disk) saved
     pub clock : new.clock ≡ last.clock
+
+  -- Over an honest disk that was sound at the entry the calls are legal, and the disk keeps them.
+  pub record AnswersLegally (limit : ℕ) (old new : Outside D C) (calls : List Call) : Type 0 where
+    pub opened : Opened
+    pub limit_is : opened.limit ≡ limit
+    pub faults : opened.faults ≡ d.fault_count old.disk
+    pub history : List Entry
+    pub legal : Legal d.honest opened.limit opened.faults calls opened.history history
+    pub disk : KeepsCalls d old.disk new.disk opened calls history
 
   -- The office was opened over what stands under it, answered these calls in order, and was closed.
   pub record AnswersCalls (limit : ℕ) (old new : Outside D C) (calls : List Call) : Type 0 where
-    pub opened : Opened
-    pub limit_is : opened.limit ≡ limit
-    pub history : List Entry
-    pub legal : Legal d.honest opened.limit opened.faults calls opened.history history
-    pub calls_are : MovesBy limit old new opened calls
-    -- each count of faults that was told rose since the entry, and is not above that at the return
-    pub faults : (d.fault_count old.disk ≤ opened.faults) × AreToldBy (d.fault_count new.disk) calls
+    pub calls_are : MovesBy limit old new calls
+    pub sound : IsTrue d.honest → IsSound (d.state old.disk) → AnswersLegally limit old new calls
+    -- the count of faults did not fall, and none that was told is above that at the return
+    pub faults : (d.fault_count old.disk ≤ d.fault_count new.disk) × AreToldBy (d.fault_count new.disk) calls
     -- the clock told the numbers of the calls, where it did not count to its end
     pub numbers : k.count new.clock < 2 ^ 64 - 1
         → (list : List ℕ) × AreNumbers calls list × Appends (k.told old.clock) (k.told new.clock) list
-    pub disk : IsTrue d.honest → KeepsCalls d old.disk new.disk opened calls history

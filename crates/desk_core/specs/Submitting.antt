@@ -6,12 +6,15 @@ use Rattle.disk_core.specs.Files.{State, IsImage}
 use Rattle.disk_core.specs.Fronts.{Narrower}
 use Rattle.disk_core.specs.Moments.{KeepsTo}
 use Rattle.moments.specs.Time.{end_of_time}
+use Rattle.plain_office.specs.Answers.{answer}
 use Rattle.plain_office.specs.Office.{Office, KeptReply}
 use Rattle.plain_office.specs.Step.{is_accepted}
 use Rattle.plain_office.specs.Once.{step_with}
 use Rattle.office_types.specs.declared.command.Ask.{Ask}
 use Rattle.office_types.specs.declared.command.Ask.TheVariants as ask
 use Rattle.office_types.specs.declared.command.Entry.{Entry}
+use Rattle.office_types.specs.declared.reply.Reply.{Reply}
+use Rattle.office_types.specs.declared.refusal.Refusal.{Refusal}
 use Rattle.office_types.specs.declared.refusal.Refusal.TheVariants.{ClockEnd}
 use Rattle.office_machine.specs.Once.{OfficeView}
 use Rattle.office_machine.specs.Once as machine
@@ -21,8 +24,9 @@ use Rattle.desk_core.specs.Answers.{Answer, Call}
 use Rattle.desk_core.specs.Asked.{asked, entry_of, IsFresh, IsNotKept, Repeats}
 use Rattle.desk_core.specs.Calls.{moment_after}
 use Rattle.desk_core.specs.Histories.{HasAcceptedHistory}
-use Rattle.desk_core.specs.Damage.{IsBroken, OpenFails}
+use Rattle.desk_core.specs.Damage.{IsBroken, OpenFailsOn}
 use Rattle.desk_core.specs.Desk.{DeskView, HoldsHistory, StandsFor, GoesOn, IsLast, IsStamped, TellsFault, stale_after}
+use Rattle.desk_core.specs.Rereading.{ReadsOn}
 use Rattle.desk_core.specs.Numbers.{IsNumber}
 use Rattle.desk_core.specs.Serving.{Opened}
 use Rattle.desk_core.specs.declared.clock.Clock as clocks
@@ -71,6 +75,22 @@ abbrev pub IsAgain : KeptReply → Result Answer DeskFault → Type 0
 IsAgain one (Ok answer) = answer.reply ≡ Ok one.reply
 IsAgain one (Err fault) = fault ≡ faults.NoMemory
 
+-- the reply is this plain office's to an ask at this moment, and the office in memory stands for what it becomes
+abbrev pub RepliesTo : ℕ → Ask → Office → Result Reply Refusal → OfficeView → Type 0
+RepliesTo t (ask.Query query) plain reply view = (reply ≡ answer t query plain) × machine.StandsFor view plain
+RepliesTo t question plain reply view = IsSomeAnd (asked question) (λ call.
+    (reply ≡ (step_with t call.token call.command plain).1)
+    × machine.StandsFor view (step_with t call.token call.command plain).0)
+
+-- so it is of an answer in time; where none is given, the office in memory stands for the same, but after a fault of the
+-- store, when the journal is opened again before the next call
+abbrev pub RepliesInTime : ℕ → Ask → Office → Result Answer DeskFault → OfficeView → Type 0
+RepliesInTime t question plain (Ok said) view = RepliesTo t question plain said.reply view
+RepliesInTime t question plain (Err (faults.StoreFault number count)) view = Unit {0}
+RepliesInTime t question plain (Err faults.JournalFull) view = machine.StandsFor view plain
+RepliesInTime t question plain (Err (faults.Broken fault)) view = Unit {0}
+RepliesInTime t question plain (Err faults.NoMemory) view = machine.StandsFor view plain
+
 -- the answer is that the clock has ended at this moment
 abbrev pub IsClockEnd : ℕ → Result Answer DeskFault → Type 0
 IsClockEnd t (Ok answer) = answer.reply ≡ Err (ClockEnd t)
@@ -95,6 +115,11 @@ pub record HasCauses {D C : Type 0} (d : disks.Ghosts D) (k : clocks.Ghosts C) (
       → KeepsTo d office.disk new.disk
       (KeepsOrAdds (moment_after (k.last new.clock) office.office.records.last) question before)
   pub reason : HasStoreReason said question office.office (d.fault_count office.disk) (d.fault_count new.disk)
+  -- On every disk, before the end of time, the reply is that of each plain office that the one in memory stands for,
+  -- and it stands for what that becomes.
+  pub replies : (plain : Office) → machine.StandsFor office.office plain
+      → moment_after (k.last new.clock) office.office.records.last < end_of_time
+      → RepliesInTime (moment_after (k.last new.clock) office.office.records.last) question plain said new.office
   -- from the end of time on this is the answer to every ask
   pub ended : end_of_time ≤ moment_after (k.last new.clock) office.office.records.last
       → IsClockEnd (moment_after (k.last new.clock) office.office.records.last) said
@@ -119,7 +144,7 @@ abbrev pub IsUnopened : {D : Type 0} → disks.Ghosts D → D → D → Result A
 IsUnopened d old new (Err (faults.StoreFault None count)) =
     Rose (d.fault_count old) (d.fault_count new) × (count ≡ d.fault_count new)
 IsUnopened d old new (Err (faults.Broken fault)) =
-    IsBroken fault × (IsTrue d.honest → OpenFails fault (d.state old).journal.seen)
+    IsBroken fault × (IsTrue d.honest → OpenFailsOn fault (d.state old))
     × (d.fault_count new ≡ d.fault_count old)
 IsUnopened d old new (Err faults.NoMemory) = d.fault_count new ≡ d.fault_count old
 IsUnopened d old new (Err (faults.StoreFault (Some number) count)) = ⊥
@@ -127,17 +152,12 @@ IsUnopened d old new (Err faults.JournalFull) = ⊥
 IsUnopened d old new (Ok answer) = ⊥
 
 module _ {D C : Type 0} (d : disks.Ghosts D) where
-  -- The journal was opened again, without a fault of the disk: the office is the one after a history, on an honest
-  -- disk that of the bytes that its journal file reads, and every image since is one that it had.
+  -- The journal was opened again, and read on.
   pub record Reopens (old office : DeskView D C) : Type 0 where
-    pub history : List Entry
-    pub holds : HoldsHistory d history office
-    pub read : IsTrue d.honest → HasAcceptedHistory history (d.state old.disk).journal.seen
-    pub any_moment : IsTrue d.honest → KeepsTo d old.disk office.disk (Narrower (d.state old.disk))
+    pub reads : ReadsOn d old.disk office
     pub clock : office.clock ≡ old.clock
     pub limit : office.limit ≡ old.limit
-    pub later : d.fault_count old.disk ≤ d.fault_count office.disk
-    pub quiet : d.fault_count office.disk ≡ d.fault_count old.disk
+    pub opened_at : office.opened_at ≡ old.opened_at
 
   -- the office that answers a call: that of the desk, and of a stale desk the one that is opened again
   abbrev pub IsOffice : DeskView D C → DeskView D C → Type 0
@@ -171,5 +191,6 @@ pub record Submits {D C : Type 0} (d : disks.Ghosts D) (k : clocks.Ghosts C) (ol
   -- a desk grows stale only where the disk failed
   pub grows_stale : new.stale ≡ true → (old.stale ≡ true) ⊎ Rose (d.fault_count old.disk) (d.fault_count new.disk)
   pub limit : new.limit ≡ old.limit
+  pub opened_at : new.opened_at ≡ old.opened_at
   pub clock_later : k.count old.clock ≤ k.count new.clock
   pub disk_later : d.fault_count old.disk ≤ d.fault_count new.disk

@@ -1,12 +1,11 @@
 -- The calls by which a desk is reached are legal.
-use Rattle.std.specs.Prelude.{◌≡◌, ℕ, ◌≤◌, Bool, true, false, List, [], ◌∷◌, ◌++◌, Result, IsTrue, IsSome}
+use Rattle.std.specs.Prelude.{◌≡◌, ℕ, ◌≤◌, Bool, true, List, [], ◌∷◌, ◌++◌, Result, IsTrue}
 use Rattle.std.proofs.Common.{append_assoc, refl, sym, subst, arith}
 use Rattle.std.proofs.lemmas.List.{append-nil}
 use Rattle.disk_core.specs.declared.disk.Disk as disks
 use Rattle.disk_core.specs.Files.{IsImage, file_in, seen_in}
 use Rattle.disk_core.specs.declared.disk.FileNo.{FileNo}
 use Rattle.disk_core.specs.declared.disk.FileNo.TheVariants.{Journal}
-use Rattle.plain_office.specs.Run.{run}
 use Rattle.office_types.specs.declared.command.Ask.{Ask}
 use Rattle.office_types.specs.declared.command.Entry.{Entry}
 use Rattle.desk_core.specs.Answers.{Answer, Call}
@@ -18,20 +17,11 @@ use Rattle.desk_core.specs.Turns.{Moves, calls_from, Reaches, LegalSince}
 use Rattle.desk_core.specs.declared.clock.Clock as clocks
 use Rattle.desk_core.specs.declared.fault.DeskFault.{DeskFault}
 
--- a disk tells what it holds, or it does not
-pub by_honesty : {P : Type 0} (honest : Bool) → (IsTrue honest → P) → ((IsTrue honest → ⊥) → P) → P
-by_honesty true tells silent = tells refl
-by_honesty false tells silent = silent (λ is. absurd cc)
-
 -- calls that are legal over an honest disk are legal over this one, which is honest
 pub honest_legal : (honest : Bool) (limit counted : ℕ) (calls : List Call) (before after : List Entry) → IsTrue honest
     → Legal true limit counted calls before after → Legal honest limit counted calls before after
 honest_legal honest limit counted calls before after tells rule =
     subst (λ (b : Bool). Legal b limit counted calls before after) (sym tells) rule
-
-none_runs : IsSome (run [])
-unfolding run
-none_runs = refl
 
 module _ {D C : Type 0} (d : disks.Ghosts D) (k : clocks.Ghosts C) where
   abbrev Step : DeskView D C → Ask → Result Answer DeskFault → DeskView D C → Type 0
@@ -55,26 +45,19 @@ module _ {D C : Type 0} (d : disks.Ghosts D) (k : clocks.Ghosts C) where
       abbrev Leads : Type 0
       Leads = (history : List Entry) × Legal d.honest opened.limit opened.faults calls opened.history history
 
-      -- on an honest disk the history is that of the bytes that it reads
-      served : IsTrue d.honest → Leads
-      served tells =
-          let serves = s.serves tells in
+      -- the history is that of the bytes that the disk reads
+      legal : Leads
+      legal =
+          let serves = s.serves in
           let disk = desk.disk in
           let seen = (d.state disk).journal.seen in
-          let own = reads_image tells disk Journal in
+          let own = reads_image s.tells disk Journal in
           let r = serves.left (d.moment disk) (d.state disk) seen serves.later (omega arith)
           (counts_now disk (d.moment disk) (omega arith)) own in (
             r.history,
-            honest_legal d.honest opened.limit opened.faults calls opened.history r.history tells
+            honest_legal d.honest opened.limit opened.faults calls opened.history r.history s.tells
                 (serves.whole seen r.history own r.has),
           )
-
-      by_staleness : (stale : Bool) → desk.stale ≡ stale → Leads
-      by_staleness false is = let h = s.holds is in (h.0, h.1)
-      by_staleness true is = by_honesty d.honest served (λ silent. ([], s.lost silent is [] none_runs))
-
-      legal : Leads
-      legal = by_staleness desk.stale refl
 
     -- the calls that lead from one desk to another are legal, whatever the first one stood for
     pub legal_since : (first desk : DeskView D C) (pairs : List (Ask × Result Answer DeskFault))

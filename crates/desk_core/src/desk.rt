@@ -6,14 +6,18 @@ ghost use Rattle.disk_core.specs.Fronts.{Narrower};
 ghost use Rattle.disk_core.specs.Moments.{KeepsTo};
 ghost use Rattle.moments.specs.Time.{end_of_time};
 ghost use Rattle.office_types.specs.Fits.{AnswerFits};
+ghost use Rattle.plain_office.specs.Office as plain;
+ghost use Rattle.office_machine.specs.Once as machine;
 ghost use Rattle.office_types.specs.declared.command.Entry.{Entry};
+ghost use Rattle.slots.specs.Causes.{HasSaveCause};
 ghost use Rattle.desk_core.specs.Answers.{Call};
+ghost use Rattle.desk_core.specs.Closing.{Closes};
 ghost use Rattle.desk_core.specs.Submitting.{IsOffice, HasCauses, Submits, Unopened};
-ghost use Rattle.desk_core.specs.Damage.{OpenFails};
+ghost use Rattle.desk_core.specs.Damage.{OpenFailsOn};
 ghost use Rattle.desk_core.specs.Desk.{DeskView, HoldsHistory, StandsFor, GoesOn};
 ghost use Rattle.desk_core.specs.Desk.{TellsFault, IsLast, IsStamped, stale_after};
-ghost use Rattle.desk_core.specs.Histories.{HasAcceptedHistory};
-ghost use Rattle.desk_core.specs.Looking.{IsRead, IsReadAfter};
+ghost use Rattle.desk_core.specs.Histories.{IsSound};
+ghost use Rattle.desk_core.specs.Looking.{IsRead, IsReadAfter, IsReplyOf};
 ghost use Rattle.desk_core.specs.Numbers.{IsNumber};
 ghost use Rattle.desk_core.specs.Offices.{most_accepted};
 ghost use Rattle.desk_core.specs.Opening.{Opens};
@@ -22,11 +26,12 @@ ghost use Rattle.desk_core.specs.Serving.{Opened};
 use crate::acked::Acked;
 use crate::clock::Clock;
 use crate::engine::Engine;
-use crate::fault::{DeskFault, SaveFault};
+use crate::fault::DeskFault;
 use disk_core::Disk;
 use meter_journal::OpenFault;
 use office_machine::Office;
 use office_types::{Ask, Query, Refusal, Reply};
+use slots::SaveFault;
 use std::alloc::Global;
 use std::marker::Model;
 
@@ -41,23 +46,23 @@ pub struct Desk<D: Disk + Drop, C: Clock + Drop> {
 impl<D: Disk + Drop, C: Clock + Drop> Model for Desk<D, C> {
     ghost use Rattle.std.specs.Prelude.{◌≡◌, false, IsTrue};
     ghost use Rattle.desk_core.specs.Desk.{DeskView, IsReady};
-    ghost use Rattle.desk_core.specs.Histories.{IsSound};
+    ghost use Rattle.desk_core.specs.Reading.{IsOpenable};
 
     ghost Value = { DeskView D C };
 
     ghost view = { λ d. d.engine };
 
-    // A desk that is not stale holds its journal as it was read, and each image of an honest disk has a history.
+    // A desk that is not stale holds its journal as it was read, and an honest disk can be opened again.
     ghost invariant = { λ d. (d.engine.stale ≡ false → IsReady D.Disk d.engine)
-        × (IsTrue D.honest → IsSound (D.state d.engine.disk)) };
+        × (IsTrue D.honest → IsOpenable (D.state d.engine.disk)) };
 }
 
 impl<D: Disk + Drop, C: Clock + Drop> Desk<D, C> {
-    /// Opens the office over its journal, and makes the changes of its entries again.
+    /// Opens the office: restores it from the checkpoint, if there is one, and replays the journal from its position.
     ///
-    /// The journal file is synced and read; nothing is written, and the clock tells no number. `limit` is that of the
-    /// journal file, in bytes.
-    /// Cost: the time and memory of every entry since the journal was made.
+    /// The journal file is synced and read; nothing is written, and the clock is not read. `limit` is that of the
+    /// journal file, in bytes. Without a checkpoint the whole journal is replayed.
+    /// Cost: the time and memory of the checkpoint and of every entry after its position.
     ///
     /// # Errors
     ///
@@ -75,15 +80,15 @@ impl<D: Disk + Drop, C: Clock + Drop> Desk<D, C> {
     ) -> Result<Desk<D, C>, (OpenFault, D, C)>
         requires { limit ≤ 2 ^ 45 }
 
-        // The desk stands for no call yet, from a history on; of an honest disk, that of the bytes that it reads.
+        // The journal was read from where the slots say. If the disk is honest and sound, the desk stands for no call
+        // yet, from the history of its journal on.
         ensures opens { IfOk result (λ desk. Opens D.Disk disk clock limit desk) }
 
-        // Where it is not opened, the bytes that are read tell why, but for a failing disk and want of memory.
-        ensures fails { IsTrue D.honest → IfErr result (λ e. OpenFails e.0 (D.state disk).journal.seen) }
+        // If it is not opened, the bytes that are read tell why, unless the disk failed or memory ran out.
+        ensures fails { IsTrue D.honest → IfErr result (λ e. OpenFailsOn e.0 (D.state disk)) }
 
-        // So it is opened where they have a history.
-        ensures sound { IsTrue D.honest → (history : List Entry)
-            → HasAcceptedHistory history (D.state disk).journal.seen
+        // So a sound disk is opened.
+        ensures sound { IsTrue D.honest → IsSound (D.state disk)
             → IfErr result (λ e. (e.0 ≡ OpenFault.StoreFault) ⊎ (e.0 ≡ OpenFault.NoMemory)) }
 
         // Then each image of the disk is one that it had, at every moment of the call.
@@ -98,7 +103,10 @@ impl<D: Disk + Drop, C: Clock + Drop> Desk<D, C> {
     {
         let mut engine = Engine::over(alloc, disk, clock, limit);
         match engine.open() {
-            Ok(()) => Ok(Desk { engine }),
+            Ok(()) => {
+                engine.note_opening();
+                Ok(Desk { engine })
+            }
             Err(fault) => {
                 let (disk, clock) = engine.give_back();
                 Err((fault, disk, clock))
@@ -160,6 +168,7 @@ impl<D: Disk + Drop, C: Clock + Drop> Desk<D, C> {
         ensures grows_stale { self.new.stale ≡ true → (self.old.stale ≡ true)
             ⊎ Rose (D.fault_count self.old.disk) (D.fault_count self.new.disk) }
         ensures limit { self.new.limit ≡ self.old.limit }
+        ensures opened_at { self.new.opened_at ≡ self.old.opened_at }
         ensures clock_later { C.count self.old.clock ≤ C.count self.new.clock }
         ensures disk_later { D.fault_count self.old.disk ≤ D.fault_count self.new.disk }
     {
@@ -185,6 +194,9 @@ impl<D: Disk + Drop, C: Clock + Drop> Desk<D, C> {
         ensures reads { (opened : Opened) (calls : List Call)
             → StandsFor D.Disk opened calls self.now
             → IsReadAfter D.honest opened calls told query.now result }
+        // On every disk it is the reply of the plain office that the one in memory stands for.
+        ensures answered { (office : plain.Office) → machine.StandsFor self.now.office office
+            → IsReplyOf told query.now office result }
         // Whichever history the desk holds, it is of that one.
         ensures own { (history : List Entry) → HoldsHistory D.Disk history self.now
             → IsRead told query.now history result }
@@ -211,14 +223,23 @@ impl<D: Disk + Drop, C: Clock + Drop> Desk<D, C> {
         self.engine.stale()
     }
 
-    /// Ends the work of the desk, and gives the disk and the clock back. No checkpoint is kept yet, so it makes no
-    /// call of the disk and answers `Ok`.
+    /// Ends the work of the desk, and gives the disk and the clock back. If the journal has not to be opened again and
+    /// grew since the desk was opened, a checkpoint of its end is saved first. The journal file stays as it is.
+    ///
+    /// Cost: if a checkpoint is saved, time and memory for all records, and at most five writes and five syncs.
+    ///
+    /// # Errors
+    ///
+    /// No checkpoint is saved; the journal is complete. `StoreFault`: the disk failed. `NoMemory`: out of memory, and
+    /// nothing was written.
     pub fn finish(self) -> (D, C, Result<(), SaveFault>)
-        ensures disk { result.0 ≡ self.disk }
+        ensures closes { Closes D.Disk self result.0 result.2 }
         ensures clock { result.1 ≡ self.clock }
-        ensures saved { IsOk result.2 }
+        ensures cause { HasSaveCause (D.fault_count self.disk) (D.fault_count result.0) result.2 }
     {
-        let (disk, clock) = self.engine.give_back();
-        (disk, clock, Ok(()))
+        let mut engine = self.engine;
+        let saved = engine.keep_checkpoint();
+        let (disk, clock) = engine.give_back();
+        (disk, clock, saved)
     }
 }

@@ -18,11 +18,11 @@ ghost use Rattle.meter_journal.specs.History.{end_gate, IsAtRest};
 ghost use Rattle.desk_core.specs.Asked.{AsksFor};
 ghost use Rattle.desk_core.specs.Calls.{moment_after};
 ghost use Rattle.desk_core.specs.Desk.{DeskView, HoldsTail, IsReady, IsLast, IsStamped, stale_after};
-ghost use Rattle.desk_core.specs.Submitting.{PassesLimit, HasCauses};
-ghost use Rattle.desk_core.specs.Histories.{IsSound};
+ghost use Rattle.desk_core.specs.Submitting.{PassesLimit, RepliesInTime, HasCauses};
 ghost use Rattle.desk_core.specs.Looking.{IsReplyOf};
 ghost use Rattle.desk_core.specs.Numbers.{IsNumber};
 ghost use Rattle.desk_core.specs.Offices.{Tail};
+ghost use Rattle.desk_core.specs.Reading.{IsOpenable};
 ghost use Rattle.desk_core.specs.Answering.{call_time, AddsEntry, AnswersInTime, AnswersAt, AnswersAsk};
 
 use crate::acked::Acked;
@@ -37,13 +37,14 @@ use office_types::{Ask, Command, Query, Refusal, Reply, Token};
 use std::alloc::Global;
 use std::marker::Model;
 
-// The office after the entries of a journal, with the journal's end and a clock, and whether the journal has to be
-// opened again.
+// The office after the entries of a journal, with the journal's end, now and when it was opened, and a clock, and
+// whether the journal has to be opened again.
 #[derive(Drop)]
 pub(crate) struct Engine<D: Disk + Drop, C: Clock + Drop> {
     pub(crate) alloc: Global,
     pub(crate) office: Office,
     pub(crate) journal: Journal<D>,
+    pub(crate) opened_at: u64,
     pub(crate) clock: C,
     pub(crate) stale: bool,
 }
@@ -59,6 +60,7 @@ impl<D: Disk + Drop, C: Clock + Drop> Model for Engine<D, C> {
       clock = e.clock;
       office = e.office;
       gate = e.journal.gate;
+      opened_at = e.opened_at;
       limit = e.journal.limit;
       stale = e.stale;
     } };
@@ -90,6 +92,7 @@ impl<D: Disk + Drop, C: Clock + Drop> Engine<D, C> {
             alloc,
             office: Office::new(alloc),
             journal: Journal::over(disk, limit),
+            opened_at: 0,
             clock,
             stale: false,
         }
@@ -112,6 +115,13 @@ impl<D: Disk + Drop, C: Clock + Drop> Engine<D, C> {
             Err(DeskFault::Broken(_)) => true,
             Err(DeskFault::NoMemory) => was_stale,
         };
+    }
+
+    // Notes that the desk was opened here, at the journal's end.
+    pub(crate) fn note_opening(&mut self)
+        ensures { self.new ≡ record self.old { opened_at = self.old.gate } }
+    {
+        self.opened_at = self.journal.end();
     }
 
     pub(crate) fn give_back(self) -> (D, C)
@@ -163,6 +173,7 @@ impl<D: Disk + Drop, C: Clock + Drop> Engine<D, C> {
         ensures office { self.new.office ≡ self.old.office }
         ensures clock { self.new.clock ≡ self.old.clock }
         ensures limit { self.new.limit ≡ self.old.limit }
+        ensures opened_at { self.new.opened_at ≡ self.old.opened_at }
         ensures later { D.fault_count self.old.disk ≤ D.fault_count self.new.disk }
     {
         match self.journal.append(bytes) {
@@ -196,8 +207,12 @@ impl<D: Disk + Drop, C: Clock + Drop> Engine<D, C> {
         ensures keeps { (question : Ask) (before : Tail) (hold : HoldsTail D.Disk before self.old)
             → AsksFor question (option_copied token.entry) command.now
             → AnswersInTime D.Disk (call_time moment told) question hold.office.plain before self.old self.new result }
+        ensures replies { (question : Ask) (office : plain.Office) → StandsFor self.old.office office
+            → AsksFor question (option_copied token.entry) command.now
+            → RepliesInTime moment question office result self.new.office }
         ensures clock { self.new.clock ≡ self.old.clock }
         ensures limit { self.new.limit ≡ self.old.limit }
+        ensures opened_at { self.new.opened_at ≡ self.old.opened_at }
         ensures later { D.fault_count self.old.disk ≤ D.fault_count self.new.disk }
     {
         match self.office.apply(moment, token, command) {
@@ -228,11 +243,15 @@ impl<D: Disk + Drop, C: Clock + Drop> Engine<D, C> {
         ensures keeps { (question : Ask) (before : Tail) (hold : HoldsTail D.Disk before self.old)
             → AsksFor question (option_copied token.entry) command.now
             → AnswersInTime D.Disk (call_time moment told) question hold.office.plain before self.old self.new result }
+        ensures replies { (question : Ask) (office : plain.Office) → StandsFor self.old.office office
+            → AsksFor question (option_copied token.entry) command.now
+            → RepliesInTime moment question office result self.new.office }
         ensures full { self.old.limit < self.old.gate + 6
             + length (spelling (entry_with moment (option_copied token.entry) command.now))
             → (result ≡ Err DeskFault.JournalFull) ⊎ (result ≡ Err DeskFault.NoMemory) }
         ensures clock { self.new.clock ≡ self.old.clock }
         ensures limit { self.new.limit ≡ self.old.limit }
+        ensures opened_at { self.new.opened_at ≡ self.old.opened_at }
         ensures later { D.fault_count self.old.disk ≤ D.fault_count self.new.disk }
     {
         let Ok(bytes) = encode_command(self.alloc, moment, token, command) else {
@@ -259,10 +278,13 @@ impl<D: Disk + Drop, C: Clock + Drop> Engine<D, C> {
         ensures keeps { (before : Tail) (hold : HoldsTail D.Disk before self.old)
             → AnswersInTime D.Disk (call_time moment told)
             (ask_of.Once token.now command.now) hold.office.plain before self.old self.new result }
+        ensures replies { (office : plain.Office) → StandsFor self.old.office office
+            → RepliesInTime moment (ask_of.Once token.now command.now) office result self.new.office }
         ensures full { PassesLimit moment self.old (ask_of.Once token.now command.now)
             → (result ≡ Err DeskFault.JournalFull) ⊎ (result ≡ Err DeskFault.NoMemory) }
         ensures clock { self.new.clock ≡ self.old.clock }
         ensures limit { self.new.limit ≡ self.old.limit }
+        ensures opened_at { self.new.opened_at ≡ self.old.opened_at }
         ensures later { D.fault_count self.old.disk ≤ D.fault_count self.new.disk }
     {
         if !command.takes_token() {
@@ -286,6 +308,8 @@ impl<D: Disk + Drop, C: Clock + Drop> Engine<D, C> {
         ensures keeps { (before : Tail) (hold : HoldsTail D.Disk before self.now)
             → AnswersInTime D.Disk (call_time moment told)
             (ask_of.Query query.now) hold.office.plain before self.now self.now result }
+        ensures replies { (office : plain.Office) → StandsFor self.now.office office
+            → RepliesInTime moment (ask_of.Query query.now) office result self.now.office }
     {
         match self.office.answer(moment, query) {
             Ok(reply) => Ok(self.answer(moment.ms(), told, Ok(reply))),
@@ -324,10 +348,13 @@ impl<D: Disk + Drop, C: Clock + Drop> Engine<D, C> {
 
         ensures answers { (before : Tail) (hold : HoldsTail D.Disk before self.old)
             → AnswersAt D.Disk (call_time moment told) ask.now hold.office.plain before self.old self.new result }
+        ensures replies { (office : plain.Office) → StandsFor self.old.office office → moment < end_of_time
+            → RepliesInTime moment ask.now office result self.new.office }
         ensures full { PassesLimit moment self.old ask.now
             → (result ≡ Err DeskFault.JournalFull) ⊎ (result ≡ Err DeskFault.NoMemory) }
         ensures clock { self.new.clock ≡ self.old.clock }
         ensures limit { self.new.limit ≡ self.old.limit }
+        ensures opened_at { self.new.opened_at ≡ self.old.opened_at }
         ensures later { D.fault_count self.old.disk ≤ D.fault_count self.new.disk }
     {
         let Ok(at) = Moment::of(moment) else {
@@ -352,9 +379,10 @@ impl<D: Disk + Drop, C: Clock + Drop> Engine<D, C> {
         ensures stamped { IsStamped result self.new.gate (D.moment self.new.disk) }
         // It takes a further call, but after a fault of the store.
         ensures ready { stale_after false result ≡ false → IsReady D.Disk self.new }
-        // Each image of the disk has a history.
-        ensures sound { IsTrue D.honest → IsSound (D.state self.new.disk) }
+        // Its journal can be opened again.
+        ensures openable { IsTrue D.honest → IsOpenable (D.state self.new.disk) }
         ensures limit { self.new.limit ≡ self.old.limit }
+        ensures opened_at { self.new.opened_at ≡ self.old.opened_at }
         ensures clock_later { C.count self.old.clock ≤ C.count self.new.clock }
         ensures disk_later { D.fault_count self.old.disk ≤ D.fault_count self.new.disk }
     {

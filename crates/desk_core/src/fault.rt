@@ -20,12 +20,3 @@ pub enum DeskFault {
     /// 115: memory ran out. No record changed, and a stale desk stays stale.
     NoMemory,
 }
-
-/// Why a desk could not keep a checkpoint at its end.
-#[derive(Clone, Copy, Debug, PartialEq, Eq)]
-pub enum SaveFault {
-    /// The disk did not do a call.
-    StoreFault,
-    /// Memory ran out.
-    NoMemory,
-}

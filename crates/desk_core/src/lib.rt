@@ -4,6 +4,7 @@
 mod acked;
 mod clock;
 mod desk;
+mod ending;
 mod engine;
 mod fault;
 mod reopening;
@@ -13,5 +14,6 @@ mod taking_turns;
 pub use acked::Acked;
 pub use clock::{Clock, ListClock, SystemClock};
 pub use desk::Desk;
-pub use fault::{DeskFault, SaveFault};
+pub use fault::DeskFault;
+pub use slots::SaveFault;
 pub use taking::{entry_is_new, entry_refused, entry_taken, is_in_order};

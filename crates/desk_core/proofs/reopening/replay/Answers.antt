@@ -5,10 +5,10 @@ use Rattle.meter_journal.specs.Reading.{Advances}
 use Rattle.office_types.specs.Tokens.{MayCarry}
 use Rattle.office_types.specs.declared.command.Entry.{Entry}
 use Rattle.meter_journal.specs.declared.fault.OpenFault.TheVariants.{NoMemory, Damaged}
-use Rattle.plain_office.specs.Office.{empty_office}
+use Rattle.plain_office.specs.Office.{Office}
 use Rattle.plain_office.specs.Run.{accept}
-use Rattle.desk_core.proofs.Damage.{none_read, one_read, all_read, next_fails, take_fails, few_read}
-use Rattle.desk_core.proofs.Offices.{run_is}
+use Rattle.office_machine.specs.Once.{StandsFor}
+use Rattle.desk_core.proofs.Replaying.{none_read, one_read, all_read, next_fails, take_fails, few_read}
 use Rattle.desk_core.proofs.reopening.replay.Goals as goal
 
 -- an entry that was read may carry its token
@@ -20,7 +20,7 @@ pub reading-init : goal.reading-init
 reading-init g c = record {
   known = c.requires.known;
   untouched = λ told. started g.D.Disk c.args.journal.now.disk (λ s. s ≡ g.D.Disk.state c.args.journal.now.disk) (g.met.D.Disk.only_now c.args.journal.now.disk) refl;
-  read = none_read g.D.Disk c.args.journal.now.disk c.args.journal.now.gate c.args.office.now c.requires.first c.requires.empty;
+  read = none_read g.D.Disk c.args.journal.now.disk c.args.journal.now.gate c.args.journal.now.gate c.args.office.now refl c.requires.fresh;
   limit = refl;
   later = omega arith;
   quiet = refl;
@@ -33,10 +33,10 @@ reading-preserved g c =
       known = search rules;
       untouched = λ told. untouched_then (c.reading.invariant.untouched told) (c.next.ensures.untouched told);
       read =
-          one_read d c.args.journal.now.disk c.reading.journal.disk c.reading.journal.gate c.next.new.self.gate c.reading.office
-          c.take.new.office c.in-Ok.read c.in-Some.entry c.reading.invariant.read
-          (λ told. (c.reading.invariant.untouched told).now) (λ told. g.met.D.Disk.holds_bytes told c.args.journal.now.disk Journal)
-          c.in-Some.is c.in-Ok.ensures.exact c.in-Ok.ensures.advances (search rules) (c.in-Ok-take.ensures.ok empty_office);
+          one_read d c.args.office.now c.args.journal.now.gate c.args.journal.now.disk c.reading.journal.disk c.reading.journal.gate c.next.new.self.gate c.reading.office c.reading.invariant.read
+          (λ told. (c.reading.invariant.untouched told).now) c.take.new.office c.in-Ok.read c.in-Some.entry
+          (λ told. g.met.D.Disk.holds_bytes told c.args.journal.now.disk Journal)
+          c.in-Some.is c.in-Ok.ensures.exact c.in-Ok.ensures.advances (search rules) c.in-Ok-take.ensures.ok c.in-Ok-take.ensures.counted;
       limit = search rules;
       later = omega (arith, c.reading.invariant.later, c.next.ensures.cause.later);
       quiet = c.in-Ok.ensures.cause.quiet (λ is. absurd cc) ∙ c.reading.invariant.quiet;
@@ -45,29 +45,29 @@ reading-preserved g c =
 pub returns-in-None-clause-read : goal.returns-in-None-clause-read
 returns-in-None-clause-read g c =
     let d = g.D.Disk in
-    all_read d c.args.journal.now.disk c.reading.journal.disk c.next.new.self.disk c.reading.journal.gate c.next.new.self.gate c.reading.office c.in-Ok.read c.reading.invariant.read
-    (λ told. (c.reading.invariant.untouched told).now) (λ told. (c.next.ensures.untouched told).now) c.in-None.is c.in-Ok.ensures.exact c.in-Ok.ensures.advances
+    all_read d c.args.office.now c.args.journal.now.gate c.args.journal.now.disk c.reading.journal.disk c.reading.journal.gate c.next.new.self.gate c.reading.office c.reading.invariant.read
+    (λ told. (c.reading.invariant.untouched told).now) c.next.new.self.disk c.in-Ok.read
+    (λ told. (c.next.ensures.untouched told).now) c.in-None.is c.in-Ok.ensures.exact c.in-Ok.ensures.advances
 
 pub returns-in-Err-clause-fails : goal.returns-in-Err-clause-fails
 returns-in-Err-clause-fails g c told file on_disk made =
-    let so_far = c.reading.invariant.read in
-    next_fails (c.reading.invariant.untouched told).now on_disk made (so_far.prefix told file on_disk made) (run_is so_far.history so_far.office_is.is_run)
-    c.in-Err.fault c.next.new.self.gate (c.in-Err.ensures.exact told)
+    let d = g.D.Disk in
+    next_fails d c.args.office.now c.args.journal.now.gate c.args.journal.now.disk c.reading.journal.disk c.reading.journal.gate c.next.new.self.gate c.reading.office c.reading.invariant.read
+    (λ tells. (c.reading.invariant.untouched tells).now) told file on_disk made c.in-Err.fault (c.in-Err.ensures.exact told)
 
 pub returns-in-Err-take-clause-fails : goal.returns-in-Err-take-clause-fails
 returns-in-Err-take-clause-fails g c told file on_disk made =
-    let so_far = c.reading.invariant.read in
+    let d = g.D.Disk in
     let fault = c.in-Err-take.fault in
-    let accepted = accept so_far.office_is.plain c.in-Some.entry in
-    take_fails (c.reading.invariant.untouched told).now on_disk made (so_far.prefix told file on_disk made) (run_is so_far.history so_far.office_is.is_run)
-    fault c.next.new.self.gate c.in-Ok.read c.in-Some.entry c.in-Some.is (c.in-Ok.ensures.exact told)
-    (subst (λ (k : ℕ). (fault ≡ NoMemory) ⊎ ((fault ≡ Damaged k) × (accepted ≡ None))) c.end-gate.ensures
-    (⊎_elim (λ want. inl want) (λ x. inr (x.0, x.1 so_far.office_is.plain so_far.office_is.stands)) c.in-Err-take.ensures.damaged))
+    take_fails d c.args.office.now c.args.journal.now.gate c.args.journal.now.disk c.reading.journal.disk c.reading.journal.gate c.next.new.self.gate c.reading.office c.reading.invariant.read
+    (λ tells. (c.reading.invariant.untouched tells).now) told file on_disk made fault c.in-Ok.read c.in-Some.entry c.in-Some.is (c.in-Ok.ensures.exact told)
+    (subst (λ (k : ℕ). (fault ≡ NoMemory) ⊎ ((fault ≡ Damaged k) × ((p : Office) → StandsFor c.reading.office p → accept p c.in-Some.entry ≡ None))) c.end-gate.ensures
+    c.in-Err-take.ensures.damaged)
 
 pub take-requires : goal.take-requires
 take-requires g c =
     let d = g.D.Disk in
     record {
-      few = few_read d c.args.journal.now.disk c.reading.journal.gate c.reading.office c.reading.invariant.read;
+      few = few_read d c.args.office.now c.args.journal.now.gate c.args.journal.now.disk c.reading.journal.gate c.reading.office c.reading.invariant.read;
       carries = may_carry _ _ c.in-Ok.read c.in-Some.entry c.in-Some.is c.in-Ok.ensures.advances;
     }

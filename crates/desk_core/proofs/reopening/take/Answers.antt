@@ -4,7 +4,7 @@ use Rattle.plain_office.specs.Once.{step_with}
 use Rattle.plain_office.specs.Run.{is_not_before}
 use Rattle.office_machine.specs.Once.{DoesOnce}
 use Rattle.desk_core.proofs.Damage.{not_taken, nothing_due, not_in_order}
-use Rattle.desk_core.proofs.Offices.{more_after, fresh_in}
+use Rattle.desk_core.proofs.Offices.{more_after, one_more, fresh_in}
 use Rattle.desk_core.proofs.Opened.{on_done, on_fault}
 use Rattle.desk_core.proofs.reopening.take.Goals as goal
 
@@ -16,6 +16,12 @@ returns-in-Ok-clause-ok c =
     (fresh_in c.args.entry.token c.args.office.now is.plain is.stands c.in_default.ensures.new)
     (subst (λ (token : Option (List ℕ)). DoesOnce (step_with c.args.entry.moment token c.args.entry.command is.plain) is.plain c.apply.new.self (Ok c.in-Ok.reply))
     c.as_ref.ensures.value (c.in-Ok.ensures.step is.plain is.stands)) c.in-Ok.ensures.accepted)
+    c.entry_taken.ensures.ok
+
+pub returns-in-Ok-clause-counted : goal.returns-in-Ok-clause-counted
+returns-in-Ok-clause-counted c =
+    on_done c.entry_taken.result
+    (λ made. one_more c.apply.new.self.records.accepted c.args.office.now.records.accepted (Ok c.in-Ok.reply) c.in-Ok.ensures.accepted made)
     c.entry_taken.ensures.ok
 
 pub returns-in-Ok-clause-damaged : goal.returns-in-Ok-clause-damaged

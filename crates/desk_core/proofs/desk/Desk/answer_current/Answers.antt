@@ -5,10 +5,14 @@ use Rattle.disk_core.proofs.Laws.{laws_of}
 use Rattle.desk_core.specs.Answers.{Call}
 use Rattle.desk_core.specs.Submitting.{IsOffice, HasCauses}
 use Rattle.desk_core.specs.Desk.{DeskView, IsReady, StandsFor, GoesOn, TellsFault, stale_after}
-use Rattle.desk_core.specs.Histories.{IsSound}
-use Rattle.desk_core.proofs.Reopened.{unopened_call, asked_call, sound_unbroken}
-use Rattle.desk_core.proofs.Standing.{marked_holds}
-use Rattle.desk_core.proofs.Submitted.{fresh_after, marked_causes, narrower_sound, asked_told, unopened_told}
+use Rattle.desk_core.specs.Reading.{IsOpenable}
+use Rattle.desk_core.specs.declared.fault.DeskFault.TheVariants.{Broken}
+use Rattle.checkpoint.proofs.BodyLaws.{one_value}
+use Rattle.meter_journal.specs.declared.fault.OpenFault.{OpenFault}
+use Rattle.desk_core.proofs.Openable.{narrower_openable}
+use Rattle.desk_core.proofs.Reopened.{unopened_call, asked_call, answer_err, openable_unbroken}
+use Rattle.desk_core.proofs.Standing.{marked_ready}
+use Rattle.desk_core.proofs.Submitted.{fresh_after, marked_causes, asked_told, unopened_told}
 use Rattle.desk_core.proofs.desk.Desk.answer_current.Goals as goal
 
 pub returns-in-Err-clause-stands : goal.returns-in-Err-clause-stands
@@ -21,7 +25,11 @@ returns-in-Err-clause-stands g c opened calls stands =
     let s = subst (λ (x : S). StandsFor d opened calls x) (sym c.self.view_is) stands in
     subst (λ (x : S). GoesOn d opened (calls ++ call ∷ []) x.disk new) c.self.view_is
     (unopened_call laws c.self.inside.engine
-    opened calls s c.args.ask.now new c.in-Err.fault c.refresh.ensures.stale c.in-Err.ensures.unopened)
+    opened calls s c.args.ask.now new c.in-Err.fault (unbroken s.tells) c.refresh.ensures.stale c.in-Err.ensures.unopened)
+  where
+    unbroken : IsTrue g.D.Disk.honest → (at : OpenFault) → answer_err c.in-Err.fault ≡ answer_err (Broken at) → ⊥
+    unbroken tells at is = openable_unbroken one_value g.D.Disk c.self.inside.engine c.refresh.new.self c.in-Err.fault at
+        (g.met.D.Disk.reads_image tells c.self.inside.engine.disk Journal) c.in-Err.ensures.unopened tells (c.self.invariant.1 tells) is
 
 pub returns-clause-stands : goal.returns-clause-stands
 returns-clause-stands g c opened calls stands =
@@ -57,7 +65,7 @@ returns-clause-causes g c =
 pub returns-in-Err-clause-not_broken : goal.returns-in-Err-clause-not_broken
 returns-in-Err-clause-not_broken g c tells fault is =
     let d = g.D.Disk in
-    sound_unbroken d c.self.inside.engine c.refresh.new.self c.in-Err.fault fault (g.met.D.Disk.reads_image tells c.self.inside.engine.disk Journal) c.in-Err.ensures.unopened tells
+    openable_unbroken one_value d c.self.inside.engine c.refresh.new.self c.in-Err.fault fault (g.met.D.Disk.reads_image tells c.self.inside.engine.disk Journal) c.in-Err.ensures.unopened tells
     (c.self.invariant.1 tells) is
 
 pub returns-in-Err-clause-cause : goal.returns-in-Err-clause-cause
@@ -83,7 +91,7 @@ pub invariant_of-self : goal.invariant_of-self
 invariant_of-self g c =
     let d = g.D.Disk in (
       λ fresh. absurd (both_ways c.self.inside.engine.stale (sym c.refresh.ensures.stale ∙ fresh) c.in-Err.ensures.unopened.is_stale),
-      λ tells. narrower_sound (d.state c.self.inside.engine.disk) (d.state c.refresh.new.self.disk) (c.self.invariant.1 tells) (c.in-Err.ensures.any_moment tells).now,
+      λ tells. narrower_openable (d.state c.self.inside.engine.disk) (d.state c.refresh.new.self.disk) (c.self.invariant.1 tells) (c.in-Err.ensures.any_moment tells).now,
     )
 
 pub invariant_of-self-2 : goal.invariant_of-self-2
@@ -92,9 +100,7 @@ invariant_of-self-2 g c =
     let S : Type 0 = DeskView g.row.D.Denot g.row.C.Denot in
     let answered = c.answer_now-said.ensures in
     let stale = stale_after c.stale-was_stale.result c.answer_now-said.result in
-    subst (λ (x : S). (x.stale ≡ false → IsReady d x) × (IsTrue d.honest → IsSound (d.state x.disk))) (sym c.mark.ensures) (
-      λ fresh.
-          let ready = answered.ready (fresh_after c.stale-was_stale.result c.answer_now-said.result fresh) in
-          (ready.0, marked_holds d ready.0 c.answer_now-said.new.self stale ready.1),
-      answered.sound,
+    subst (λ (x : S). (x.stale ≡ false → IsReady d x) × (IsTrue d.honest → IsOpenable (d.state x.disk))) (sym c.mark.ensures) (
+      λ fresh. marked_ready d c.answer_now-said.new.self stale (answered.ready (fresh_after c.stale-was_stale.result c.answer_now-said.result fresh)),
+      answered.openable,
     )

@@ -4,15 +4,15 @@ use Rattle.desk_core.specs.Desk.{DeskView}
 use Rattle.desk_core.proofs.Offices.{run_is}
 use Rattle.desk_core.proofs.desk.Desk.look.Goals as goal
 
+pub returns-clause-answered : goal.returns-clause-answered
+returns-clause-answered g c plain stands =
+    let P : Type 0 = DeskView g.row.D.Denot g.row.C.Denot in
+    c.look.ensures.reads plain (subst (λ (s : P). StandsFor s.office plain) (sym c.self.view_is) stands)
+
 pub returns-clause-own : goal.returns-clause-own
 returns-clause-own g c history holds =
-    let P : Type 0 = DeskView g.row.D.Denot g.row.C.Denot in
     let plain = holds.office.plain in
-    record {
-      plain = plain;
-      is_run = run_is history holds.office.is_run;
-      answered = c.look.ensures.reads plain (subst (λ (s : P). StandsFor s.office plain) (sym c.self.view_is) holds.office.stands);
-    }
+    record { plain = plain; is_run = run_is history holds.office.is_run; answered = returns-clause-answered g c plain holds.office.stands }
 
 pub returns-clause-reads : goal.returns-clause-reads
 returns-clause-reads g c opened calls stands =

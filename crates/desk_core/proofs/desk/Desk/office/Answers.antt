@@ -1,6 +1,5 @@
 use Rattle.std.proofs.Common.{◌≡◌, ◌∙◌, false, ap, arith}
 use Rattle.office_machine.specs.Once.{OfficeView}
-use Rattle.meter_journal.specs.History.{header}
 use Rattle.desk_core.specs.Desk.{DeskView}
 use Rattle.desk_core.proofs.Counted.{counted_few}
 use Rattle.desk_core.proofs.desk.Desk.office.Goals as goal
@@ -14,5 +13,5 @@ returns-clause-few g c =
     omega (
       arith,
       ap (λ (v : OfficeView). v.records.accepted) c.office.ensures,
-      counted_few header ready.0 desk.office desk.gate ready.1.office ready.1.end ready.1.small,
+      counted_few ready.tail.head ready.tail.entries desk.office desk.gate ready.holds.office ready.holds.end ready.holds.small,
     )

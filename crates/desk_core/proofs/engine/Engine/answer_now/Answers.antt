@@ -2,12 +2,15 @@ use Rattle.std.proofs.Common.{◌≡◌, ◌⊎◌, ℕ, ◌+◌, ◌<◌, ◌-�
 use Rattle.std.specs.Io.KnownBytes.{Appends}
 use Rattle.disk_core.proofs.Laws.{laws_of}
 use Rattle.desk_core.specs.declared.fault.DeskFault.TheVariants.{JournalFull, NoMemory}
-use Rattle.desk_core.specs.Submitting.{PassesLimit}
+use Rattle.moments.specs.Time.{end_of_time}
+use Rattle.plain_office.specs.Office.{Office}
+use Rattle.office_machine.specs.Once.{StandsFor}
+use Rattle.desk_core.specs.Submitting.{PassesLimit, RepliesInTime}
 use Rattle.desk_core.specs.Calls.{moment_after}
 use Rattle.desk_core.specs.Desk.{DeskView, HoldsTail}
 use Rattle.desk_core.specs.Offices.{Tail}
 use Rattle.desk_core.specs.Answering.{call_time, AnswersAt, AnswersAsk}
-use Rattle.desk_core.proofs.Submitted.{stamped_by, numbered_by, last_by, ready_by, sound_by, tells_by}
+use Rattle.desk_core.proofs.Submitted.{stamped_by, numbered_by, last_by, ready_by, openable_by, tells_by}
 use Rattle.desk_core.proofs.engine.Engine.answer_now.Goals as goal
 
 pub returns-clause-asks : goal.returns-clause-asks
@@ -67,11 +70,16 @@ returns-clause-tells g c =
     let full = subst (λ (s : P). PassesLimit c.moment_for-moment.result s c.args.ask.now
     → (c.answer_at.result ≡ Err JournalFull) ⊎ (c.answer_at.result ≡ Err NoMemory)) c.self.view_is
     c.answer_at.ensures.full in
+    let replies = subst (λ (s : P). (p : Office) → StandsFor s.office p → c.moment_for-moment.result < end_of_time
+    → RepliesInTime c.moment_for-moment.result c.args.ask.now p c.answer_at.result c.answer_at.new.self.office) c.self.view_is
+    c.answer_at.ensures.replies in
     tells_by (returns-clause-asks g c) c.requires.ready
     k (laws_of g.met.D.Disk) refl once (subst (λ (t : ℕ).
     PassesLimit t c.args.self.now c.args.ask.now
     → (c.answer_at.result ≡ Err JournalFull) ⊎ (c.answer_at.result ≡ Err NoMemory)) now_is full)
+    (subst (λ (t : ℕ). (p : Office) → StandsFor c.args.self.now.office p → t < end_of_time
+    → RepliesInTime t c.args.ask.now p c.answer_at.result c.answer_at.new.self.office) now_is replies)
 
-pub returns-clause-sound : goal.returns-clause-sound
-returns-clause-sound g c tells =
-    sound_by (returns-clause-asks g c) c.requires.ready tells
+pub returns-clause-openable : goal.returns-clause-openable
+returns-clause-openable g c tells =
+    openable_by (returns-clause-asks g c) c.requires.ready tells

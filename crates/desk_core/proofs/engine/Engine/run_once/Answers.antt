@@ -1,9 +1,10 @@
-use Rattle.std.proofs.Common.{◌≡◌, true, false, Ok, Err, rules, subst, sym, refl}
+use Rattle.std.proofs.Common.{◌≡◌, true, false, Ok, Err, rules, subst, sym, ap, refl}
 use Rattle.office_types.specs.Tokens.{takes_token}
 use Rattle.office_types.specs.declared.command.Ask.TheVariants as ask
 use Rattle.office_machine.specs.Once.{StandsFor}
+use Rattle.desk_core.specs.Answers.{Answer}
 use Rattle.desk_core.specs.Desk.{DeskView}
-use Rattle.desk_core.proofs.Recalled.{asks_with, asks_without, reply_told_again, refusal_told_again, recalled_fits, told_again, not_passing}
+use Rattle.desk_core.proofs.Recalled.{asks_with, asks_without, reply_told_again, refusal_told_again, recalled_fits, told_again, so_again, not_passing}
 use Rattle.desk_core.proofs.engine.Engine.run_once.Goals as goal
 
 pub returns-then-not-takes_token-clause-keeps : goal.returns-then-not-takes_token-clause-keeps
@@ -14,7 +15,7 @@ returns-then-not-takes_token-clause-keeps g c = λ before hold.
 pub answer-requires-clause-reply_fits : goal.answer-requires-clause-reply_fits
 answer-requires-clause-reply_fits g c =
     let P : Type 0 = DeskView g.row.D.Denot g.row.C.Denot in
-    let hold = c.requires.ready.1 in
+    let hold = c.requires.ready.holds in
     let p = hold.office.plain in
     let stands : StandsFor c.self.inside.office p = subst (λ (s : P). StandsFor s.office p) (sym c.self.view_is) hold.office.stands in
     recalled_fits p c.args.token.now c.args.command.now c.self.inside.office stands (Ok c.in-Ok-Some.reply)
@@ -33,7 +34,7 @@ pub returns-in-Ok-Some-clause-full : goal.returns-in-Ok-Some-clause-full
 returns-in-Ok-Some-clause-full g c = λ passes.
     let P : Type 0 = DeskView g.row.D.Denot g.row.C.Denot in
     let takes : takes_token c.args.command.now ≡ true = search rules in
-    let hold = c.requires.ready.1 in
+    let hold = c.requires.ready.holds in
     let p = hold.office.plain in
     let stands : StandsFor c.self.inside.office p = subst (λ (s : P). StandsFor s.office p) (sym c.self.view_is) hold.office.stands in
     absurd (not_passing c.args.moment c.args.self.now c.args.token.now c.args.command.now p (Ok c.in-Ok-Some.reply) takes hold.office.stands
@@ -48,7 +49,7 @@ pub returns-in_default : goal.returns-in_default
 returns-in_default g c =
     let P : Type 0 = DeskView g.row.D.Denot g.row.C.Denot in
     let takes : takes_token c.args.command.now ≡ true = search rules in
-    let hold = c.requires.ready.1 in
+    let hold = c.requires.ready.holds in
     let p = hold.office.plain in
     let stands : StandsFor c.self.inside.office p = subst (λ (s : P). StandsFor s.office p) (sym c.self.view_is) hold.office.stands in
     record {
@@ -61,6 +62,29 @@ returns-in_default g c =
           absurd (not_passing c.args.moment c.args.self.now c.args.token.now c.args.command.now p (Err c.in-Err.refusal) takes hold.office.stands
           (refusal_told_again p c.args.token.now c.args.command.now c.in-Err.refusal c.in_default.not-NoMemory (c.in-Err.ensures.exact p stands)) passes);
       clock = search rules;
+      replies = λ p stands. so_again c.args.moment c.args.token.now c.args.command.now takes p c.self.inside.office (Err c.in-Err.refusal) c.answer-in_default.result
+          (ap (λ (a : Answer). a.reply) c.answer-in_default.ensures) (subst (λ (s : P). StandsFor s.office p) (sym c.self.view_is) stands)
+          (refusal_told_again p c.args.token.now c.args.command.now c.in-Err.refusal c.in_default.not-NoMemory
+          (c.in-Err.ensures.exact p (subst (λ (s : P). StandsFor s.office p) (sym c.self.view_is) stands)));
       limit = search rules;
+      opened_at = search rules;
       later = search rules;
     }
+
+pub returns-then-not-takes_token-clause-replies : goal.returns-then-not-takes_token-clause-replies
+returns-then-not-takes_token-clause-replies g c = λ p stands.
+    let none : takes_token c.args.command.now ≡ false = search rules in
+    c.run_command.ensures.replies (ask.Once c.args.token.now c.args.command.now) p stands (asks_without c.args.token.now c.args.command.now none)
+
+pub returns-in-Ok-None-clause-replies : goal.returns-in-Ok-None-clause-replies
+returns-in-Ok-None-clause-replies g c = λ p stands.
+    let takes : takes_token c.args.command.now ≡ true = search rules in
+    c.run_command-in-Ok-None.ensures.replies (ask.Once c.args.token.now c.args.command.now) p stands (asks_with c.args.token.now c.args.command.now takes)
+
+pub returns-in-Ok-Some-clause-replies : goal.returns-in-Ok-Some-clause-replies
+returns-in-Ok-Some-clause-replies g c = λ p stands.
+    let P : Type 0 = DeskView g.row.D.Denot g.row.C.Denot in
+    let takes : takes_token c.args.command.now ≡ true = search rules in
+    let there = subst (λ (s : P). StandsFor s.office p) (sym c.self.view_is) stands in
+    so_again c.args.moment c.args.token.now c.args.command.now takes p c.self.inside.office (Ok c.in-Ok-Some.reply) c.answer.result (ap (λ (a : Answer). a.reply) c.answer.ensures) there
+    (reply_told_again p c.args.token.now c.args.command.now c.in-Ok-Some.field-0 c.in-Ok-Some.reply (search rules) (c.in-Ok-Some.ensures.exact p there))
