@@ -27,12 +27,12 @@ use Rattle.plain_office.proofs.Runs.{step_plain}
 use Rattle.meter_journal.specs.History.{header, end_gate}
 use Rattle.desk_core.specs.Answers.{Answer}
 use Rattle.desk_core.specs.Calls.{moment_after, GrowsBy, IsAnswered}
-use Rattle.desk_core.specs.Desk.{DeskView, HoldsHistory}
+use Rattle.desk_core.specs.Desk.{DeskView}
 use Rattle.generator.specs.Drafts.{name_of}
 use Rattle.generator.specs.Places.{place_after}
 use Rattle.generator.specs.Clocks.{moments_told}
 use Rattle.generator.specs.Generated.{Progress, noted, after_entry, progress, tally}
-use Rattle.generator.specs.Working.{IsDeskAfter, AreAnswers, AreKept, IsCounted, counted_in, upload_count, counts_of, shown_in}
+use Rattle.generator.specs.Working.{HoldsSoundly, IsDeskAfter, AreAnswers, AreKept, IsCounted, counted_in, upload_count, counts_of, shown_in}
 use Rattle.generator.specs.declared.clock.PlaceClock.{PlaceClock}
 use Rattle.generator.specs.declared.work.AnswerCounts.{AnswerCounts}
 use Rattle.generator.specs.declared.work.Kept.{Kept}
@@ -47,7 +47,7 @@ use Rattle.generator.proofs.Progress.{last_of, runs, last_within, last_before, e
 -- the desk answered, and its clock told the moment of one command more
 pub next_asked : {E : Type 0} (number told : ℕ) (history : List Entry) (question : Ask) (old new : DeskView MemoryDisk PlaceClock) (r : Result Answer E)
     → told < 2 ^ 33 → IsDeskAfter number told history old
-    → IfOk r (λ said. (after : List Entry) × IsSomeAnd (run history) (λ office. IsAnswered old.limit question office said history after) × HoldsHistory memory.ghosts after new)
+    → IfOk r (λ said. (after : List Entry) × IsSomeAnd (run history) (λ office. IsAnswered old.limit question office said history after) × HoldsSoundly memory.ghosts after new)
     → OnOk r (new.stale ≡ false)
     → OnOk r (new.clock.place.made + 1 ≡ min (old.clock.place.made + 1 + 1) (2 ^ 64 - 1))
     → (new.clock.place.made + 1 < 2 ^ 64 - 1

@@ -6,11 +6,10 @@ use Rattle.office_types.specs.declared.command.Ask.TheVariants as ask
 use Rattle.office_types.specs.declared.command.Command.{Command}
 use Rattle.office_types.specs.declared.command.Entry.{Entry}
 use Rattle.desk_core.specs.Answers.{Answer}
-use Rattle.desk_core.specs.Desk.{HoldsHistory}
 use Rattle.generator.specs.Drafts.{draft_command}
 use Rattle.generator.specs.Places.{place_before, draft_at, next_place, place_after}
 use Rattle.generator.specs.Generated.{Progress, progress}
-use Rattle.generator.specs.Working.{IsDeskAfter, AreAnswers, IsCounted, IsWork}
+use Rattle.generator.specs.Working.{HoldsSoundly, IsDeskAfter, AreAnswers, IsCounted, IsWork}
 use Rattle.generator.specs.declared.place.Place.{Place}
 use Rattle.generator.specs.declared.work.AnswerCounts.{AnswerCounts}
 use Rattle.generator.specs.declared.work.Work.{Work}
@@ -28,7 +27,7 @@ is_work w number n is made =
 
 -- before the first command
 pub begun : (w : Work) (number : ℕ) → w.number ≡ number → w.place ≡ place_before number → w.answers ≡ record { accepted = 0; refused = 0; nothing = 0 }
-    → HoldsHistory memory.ghosts [] w.desk → w.desk.stale ≡ false → w.desk.clock.number ≡ number → w.desk.clock.place.made ≡ 0
+    → HoldsSoundly memory.ghosts [] w.desk → w.desk.stale ≡ false → w.desk.clock.number ≡ number → w.desk.clock.place.made ≡ 0
     → IsWork w × (w.number ≡ number) × (w.place.made ≡ 0)
 begun w number is place answers holds fresh clock made =
     let none : w.place.made ≡ 0 = ap (λ (p : Place). p.made) place in (

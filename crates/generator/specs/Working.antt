@@ -11,7 +11,9 @@ use Rattle.due_core.specs.Buckets.{BucketRecord}
 use Rattle.plain_office.specs.Office.{Office, Account}
 use Rattle.plain_office.specs.Counts.{version_count}
 use Rattle.meter_journal.specs.History.{header, end_gate}
+use Rattle.disk_core.specs.declared.disk.Disk as disks
 use Rattle.desk_core.specs.Desk.{DeskView, HoldsHistory}
+use Rattle.desk_core.specs.Histories.{SlotsFit}
 use Rattle.generator.specs.Drafts.{name_of}
 use Rattle.generator.specs.Places.{place_after}
 use Rattle.generator.specs.Generated.{Progress, progress}
@@ -20,9 +22,14 @@ use Rattle.generator.specs.declared.work.AnswerCounts.{AnswerCounts}
 use Rattle.generator.specs.declared.work.Kept.{Kept}
 use Rattle.generator.specs.declared.work.Work.{Work}
 
+-- a desk of an honest disk holds this history, and the slots of its disk fit it
+pub record HoldsSoundly {D C : Type 0} (d : disks.Ghosts D) (history : List Entry) (desk : DeskView D C) : Type 0 where
+  pub journal : HoldsHistory d history desk
+  pub slots : SlotsFit history (d.state desk.disk)
+
 -- the desk holds the journal of these entries, and its clock has told the number and as many moments behind it
 pub record IsDeskAfter (number told : ℕ) (history : List Entry) (desk : DeskView MemoryDisk PlaceClock) : Type 0 where
-  pub holds : HoldsHistory memory.ghosts history desk
+  pub holds : HoldsSoundly memory.ghosts history desk
   pub fresh : desk.stale ≡ false
   pub number_is : desk.clock.number ≡ number
   pub told_is : desk.clock.place.made ≡ told

@@ -6,10 +6,10 @@ ghost use Rattle.office_types.specs.declared.command.Ask.TheVariants as ask_of;
 ghost use Rattle.office_types.specs.declared.command.Entry.{Entry};
 ghost use Rattle.plain_office.specs.Run.{run};
 ghost use Rattle.desk_core.specs.Calls.{IsAnswered};
-ghost use Rattle.desk_core.specs.Desk.{HoldsHistory};
+ghost use Rattle.desk_core.specs.Histories.{SlotsFit};
 ghost use Rattle.generator.specs.Places.{place_after};
 ghost use Rattle.generator.specs.Generated.{progress, tally};
-ghost use Rattle.generator.specs.Working.{IsDeskAfter, IsWork, AreKept, IsCounted, shown_in};
+ghost use Rattle.generator.specs.Working.{HoldsSoundly, IsDeskAfter, IsWork, AreKept, IsCounted, shown_in};
 
 use crate::clock::PlaceClock;
 use crate::draft::bucket_name;
@@ -75,11 +75,11 @@ pub(crate) struct Work {
 
 // Asks a desk that is not stale. One over a disk that does not fail lacks nothing but memory.
 fn ask<D: Disk + Drop, C: Clock + Drop>(desk: &mut Desk<D, C>, ask: &Ask) -> Result<Acked, NoMemory>
-    ensures answers { (history : List Entry) → HoldsHistory D.Disk history desk.old
+    ensures answers { IsTrue D.honest → (history : List Entry) → HoldsSoundly D.Disk history desk.old
         → desk.old.stale ≡ false
         → IfOk result (λ said. (after : List Entry)
         × IsSomeAnd (run history) (λ office. IsAnswered desk.old.limit ask.now office said history after)
-        × HoldsHistory D.Disk after desk.new) }
+        × HoldsSoundly D.Disk after desk.new) }
     ensures fresh { OnOk result (desk.new.stale ≡ false) }
     ensures once { desk.old.stale ≡ false
         → OnOk result (C.count desk.new.clock ≡ min (C.count desk.old.clock + 1) (2 ^ 64 - 1)) }
@@ -121,7 +121,8 @@ fn open<D: Disk + Drop, C: Clock + Drop>(
     mut disk: D,
     clock: C,
 ) -> Result<Desk<D, C>, NoMemory>
-    ensures holds { IsTrue D.honest → IfOk result (λ desk. HoldsHistory D.Disk [] desk) }
+    ensures holds { IsTrue D.honest → SlotsFit [] (D.state disk)
+        → IfOk result (λ desk. HoldsSoundly D.Disk [] desk) }
     ensures fresh { IfOk result (λ desk. desk.stale ≡ false) }
     ensures clock { IfOk result (λ desk. desk.clock ≡ clock) }
 {

@@ -11,7 +11,7 @@ use Rattle.meter_journal.proofs.Heads.{made_head}
 use Rattle.meter_journal.proofs.Prefix.{frame_next, prefix_start, prefix_more, prefix_end}
 use Rattle.meter_journal.specs.declared.fault.OpenFault.{OpenFault}
 use Rattle.desk_core.specs.Damage.{OpenFails, IsNotTaken}
-use Rattle.desk_core.proofs.Damage.{broken_at, replay_open}
+use Rattle.desk_core.proofs.Damage.{broken_at}
 use Rattle.desk_core.proofs.Offices.{few, run_is}
 use Rattle.stay_explain.specs.Ledgers.{LedgerRecord, IsLedgerOf}
 
@@ -59,7 +59,7 @@ carries_read file gate next ledger e bytes read is =
 pub frame_fails : (file : List ℕ) (gate : ℕ) (ledger : LedgerRecord) (fault : OpenFault) → IsMade file → HasRead file gate ledger
     → FrameFails fault gate (frame_at gate file) → OpenFails fault file
 frame_fails file gate ledger fault made read fails =
-    replay_open fault file (broken_at fault read.history read.is.office.plain gate gate file made read.prefix (run_is read.history read.is.office.is_run) (refl, fails))
+    broken_at fault read.history read.is.office.plain gate gate file made read.prefix (run_is read.history read.is.office.is_run) (refl, fails)
 
 -- its entry is not taken
 pub take_fails : (file : List ℕ) (gate next : ℕ) (ledger : LedgerRecord) (e : Entry) (fault : OpenFault) → IsMade file

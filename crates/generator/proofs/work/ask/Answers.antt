@@ -3,8 +3,8 @@ use Rattle.generator.proofs.Standing.{asked, asked_once}
 use Rattle.generator.proofs.work.ask.Goals as goal
 
 pub returns-in-Ok-clause-answers : goal.returns-in-Ok-clause-answers
-returns-in-Ok-clause-answers g c history holds fresh =
-    asked (laws_of g.met.D.Disk) history c.args.desk.now c.submit.new.self c.args.ask.now c.in-Ok.said
+returns-in-Ok-clause-answers g c tells history holds fresh =
+    asked (laws_of g.met.D.Disk) tells history c.args.desk.now c.submit.new.self c.args.ask.now c.in-Ok.said
     fresh c.in-Ok.ensures.submits.stale holds c.in-Ok.ensures.submits.stands
 
 pub returns-in-Ok-clause-once : goal.returns-in-Ok-clause-once
