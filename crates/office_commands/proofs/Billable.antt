@@ -20,7 +20,7 @@ use Rattle.bill_posting.specs.Bills.{bills_of}
 use Rattle.bill_posting.specs.Differences.{is_same_bill, first_difference}
 use Rattle.bill_posting.specs.Posting.{DoesPost}
 use Rattle.desk_core.specs.declared.clock.Clock as clocks
-use Rattle.desk_core.specs.Histories.{HasAcceptedHistory}
+use Rattle.desk_core.specs.Histories.{HasAcceptedHistory, IsSound}
 use Rattle.http_front.specs.declared.replies.Replies as sinks
 use Rattle.office_commands.specs.Lines.{fault_exit}
 use Rattle.office_commands.specs.Running.{Surroundings, around}
@@ -76,13 +76,15 @@ module _ (status : ℕ) where
       after_done first after =
           let closed : IsClosed one.month after.office =
           subst (λ (p : Office). IsClosed one.month p) (same_Some can.office after.office (sym can.is_run ∙ after.is_run)) can.closed in
+          let bills = after.bills in
+          let read = record { plain = after.office; is_run = after.is_run; answered = bills.is_read closed } in
           ⊎_elim
           (λ billed. ⊎_elim
-          (λ (posts : PostsLines w b after.lines one old new status). answer_done posts.answer posts.told
-          (no_others one.month (bills_of after.lines) posts.answer (b.book one.old) (b.book one.new) can.book can.tells can.tells_still posts.posts
-          (⊎_elim (λ none. inl none) (λ same. inr (same first after.lines (after.is_read closed))) can.free)))
+          (λ (posts : PostsLines w b bills.lines one old new status). answer_done posts.answer posts.told
+          (no_others one.month (bills_of bills.lines) posts.answer (b.book one.old) (b.book one.new) can.book can.tells can.tells_still posts.posts
+          (⊎_elim (λ none. inl none) (λ same. inr (same first bills.lines read)) can.free)))
           (λ out. inr out.0.status_is) billed.1)
-          (λ unclosed. absurd (unclosed.0 closed)) after.billed
+          (λ unclosed. absurd (unclosed.0 closed)) bills.billed
 
   module _ (two : status ≡ 2 → ⊥) (five : status ≡ 5 → ⊥) where
     fault_done : (fault : OpenFault) → status ≡ fault_exit fault → Billed
@@ -95,17 +97,18 @@ module _ (status : ℕ) where
     module _ {D C W K : Type 0} (d : disks.Ghosts D) (k : clocks.Ghosts C) (w : sinks.Ghosts W) (b : keepers.Ghosts K) (one : Billing K)
         (tells : IsTrue d.honest) (history : List Entry) (can : CanBill b history one)
         (four : status ≡ 4 → ⊥) (eleven : status ≡ 11 → ⊥) (eight : status ≡ 8 → ⊥) where
-      month_done : (first : ℕ) (old new : Surroundings D C W) → HasAcceptedHistory history (d.state old.disk).journal.seen
+      month_done : (first : ℕ) (old new : Surroundings D C W) → IsSound (d.state old.disk) → HasAcceptedHistory history (d.state old.disk).journal.seen
           → BillsMonth d w b one first old new status → Billed
-      month_done first old new has m =
-          let same : m.history ≡ history = entries_unique header m.history history (d.state old.disk).journal.seen (m.read tells).entries has.entries in
+      month_done first old new sound has m =
+          let known = m.sound tells sound in
+          let same : known.0 ≡ history = entries_unique header known.0 history (d.state old.disk).journal.seen known.1.entries has.entries in
           after_done w old.out new.out four eleven b history one can first
-          (subst (λ (h : List Entry). BillsAfter w b h one first old.out new.out status) same m.billed)
+          (subst (λ (h : List Entry). BillsAfter w b h one first old.out new.out status) same known.2)
 
-      pub bill_done : (old new : Surroundings D C W) → HasAcceptedHistory history (d.state old.disk).journal.seen → Bills d k w b one old new status → Billed
-      bill_done old new has starts =
+      pub bill_done : (old new : Surroundings D C W) → IsSound (d.state old.disk) → HasAcceptedHistory history (d.state old.disk).journal.seen → Bills d k w b one old new status → Billed
+      bill_done old new sound has starts =
           ⊎_elim
           (λ does. ⊎_elim
-          (λ m. month_done starts.first (around old.disk starts.clock old.out) new has m)
-          (λ refused. fault_done refused.0.fault refused.0.status_is) does.1)
+          (λ m. month_done starts.first (around old.disk starts.clock old.out) new sound has m)
+          (λ refused. fault_done refused.0.fault refused.0.refused.status_is) does.1)
           (λ ends. absurd (eight ends.1.status_is)) starts.does

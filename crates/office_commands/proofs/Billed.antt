@@ -4,7 +4,6 @@ use Rattle.std.specs.Prelude.{is_some, OnOk, IsErrOf}
 use Rattle.std.proofs.lemmas.Option.{same_Some}
 use Rattle.office_base.specs.Maps.{at_number}
 use Rattle.tariff.specs.Prices.{Prices}
-use Rattle.office_types.specs.declared.command.Entry.{Entry}
 use Rattle.office_types.specs.declared.command.Query.TheVariants as query
 use Rattle.office_types.specs.declared.reply.Reply.{Reply}
 use Rattle.office_types.specs.declared.reply.Reply.TheVariants as reply
@@ -15,7 +14,6 @@ use Rattle.plain_office.specs.Answers.{answer}
 use Rattle.plain_office.specs.Charges.{kept_or, in_force, tariff_for, report_lines}
 use Rattle.plain_office.specs.Office.{Office}
 use Rattle.plain_office.specs.Orderly.{IsOrderly}
-use Rattle.plain_office.specs.Run.{run}
 use Rattle.bill_book.specs.declared.bill.Bill.{Bill}
 use Rattle.bill_book.specs.declared.keeper.BillKeeper as keepers
 use Rattle.bill_book.specs.Books.{Book, Told}
@@ -25,16 +23,16 @@ use Rattle.bill_posting.specs.declared.posting.PostFault.{PostFault}
 use Rattle.bill_posting.specs.declared.posting.PostFault.TheVariants.{OtherBills, KeeperFault, NoMemory}
 use Rattle.bill_posting.specs.Posting.{DoesPost}
 use Rattle.desk_core.specs.Calls.{moment_after}
-use Rattle.desk_core.specs.Looking.{IsRead}
+use Rattle.desk_core.specs.Looking.{IsReplyOf}
 use Rattle.http_front.specs.declared.replies.Replies as sinks
 use Rattle.http_front.specs.declared.answering.SessionEnd.TheVariants as ends
 use Rattle.office_commands.specs.Lines.{IsBillExit, open_month_note}
-use Rattle.office_commands.specs.Billing.{IsClosed, Billing, LeavesKeeper, BillsBook, EndsBilling, TellsPosting, PostsReply, BillsAfter, MayBePosted, IsPostExit, IsPosted}
+use Rattle.office_commands.specs.Billing.{IsClosed, Billing, LeavesKeeper, BillsBook, EndsBilling, TellsPosting, PostsReply, BillsBy, MayBePosted, IsPostExit, IsPosted}
 use Rattle.office_commands.proofs.MonthTold.{with_prices}
 
 -- ---- the report of a closed month
 
-module _ (told month : ℕ) (history : List Entry) (p : Office) (is_run : run history ≡ Some p) where
+module _ (told month : ℕ) (p : Office) where
   abbrev t : ℕ
   t = moment_after told p.last
 
@@ -51,46 +49,35 @@ module _ (told month : ℕ) (history : List Entry) (p : Office) (is_run : run hi
       let found = closed_prices (at_number month p.closed) refl closed in
       (report_lines found.0 month t p, with_prices t month p found.0 found.1)
 
-  read_as : (r : Result Reply Refusal) → IsRead told (query.Report month) history r
-      → (r ≡ answer t (query.Report month) p) ⊎ (r ≡ Err refusal.NoMemory)
-  read_as r read =
-      subst (λ (q : Office). (r ≡ answer (moment_after told q.last) (query.Report month) q) ⊎ (r ≡ Err refusal.NoMemory))
-      (same_Some read.plain p (sym read.is_run ∙ is_run)) read.answered
-
-  pub may_be_posted : IsOrderly p → IsClosed month p → (r : Result Reply Refusal) → IsRead told (query.Report month) history r → MayBePosted r
+  pub may_be_posted : IsOrderly p → IsClosed month p → (r : Result Reply Refusal) → IsReplyOf told (query.Report month) p r → MayBePosted r
   may_be_posted orderly closed r read =
       let found = closed_lines closed in
       ⊎_elim
       (λ is. subst MayBePosted (sym (is ∙ found.1)) (few_lines t month p found.0 orderly found.1, few_buckets t month p found.0 orderly found.1))
-      (λ lacks. subst MayBePosted (sym lacks) tt) (read_as r read)
+      (λ lacks. subst MayBePosted (sym lacks) tt) read
 
   module _ {W K : Type 0} (w : sinks.Ghosts W) (b : keepers.Ghosts K) (one : Billing K) (same : one.month ≡ month) (old new : W) (status : ℕ) where
-    pub billed_closed : IsClosed month p → (r : Result Reply Refusal) → IsRead told (query.Report month) history r → PostsReply w b r one old new status
-        → BillsAfter w b history one told old new status
+    pub billed_closed : IsClosed month p → (r : Result Reply Refusal) → IsReplyOf told (query.Report month) p r → PostsReply w b r one old new status
+        → BillsBy w b p one told old new status
     billed_closed closed r read posts =
         let found = closed_lines closed in
         record {
-          office = p;
-          is_run = is_run;
           lines = found.0;
-          is_read = λ _. subst (λ (m : ℕ). IsRead told (query.Report m) history (Ok (reply.Report found.0))) (sym same)
-              (record { plain = p; is_run = is_run; answered = inl (sym found.1) });
+          is_read = λ _. subst (λ (m : ℕ). IsReplyOf told (query.Report m) p (Ok (reply.Report found.0))) (sym same) (inl (sym found.1));
           billed = inl (
             subst (λ (m : ℕ). IsClosed m p) (sym same) closed,
             ⊎_elim
                 (λ is. inl (subst (λ (x : Result Reply Refusal). PostsReply w b x one old new status) (is ∙ found.1) posts))
                 (λ lacks. inr (subst (λ (x : Result Reply Refusal). PostsReply w b x one old new status) lacks posts))
-                (read_as r read),
+                read,
           );
         }
 
     pub billed_open : (IsClosed month p → ⊥) → EndsBilling w 12 open_month_note old new status → LeavesKeeper one
-        → BillsAfter w b history one told old new status
+        → BillsBy w b p one told old new status
     billed_open unclosed ends leaves =
         let other : IsClosed one.month p → ⊥ = λ closed. unclosed (subst (λ (m : ℕ). IsClosed m p) same closed) in
         record {
-          office = p;
-          is_run = is_run;
           lines = [];
           is_read = λ closed. absurd (other closed);
           billed = inr (other, ends, leaves);

@@ -19,7 +19,7 @@ use Rattle.plain_office.specs.Step.{is_accepted}
 use Rattle.command_line.specs.declared.line.ForecastAsked.{ForecastAsked}
 use Rattle.desk_core.specs.declared.clock.Clock as clocks
 use Rattle.desk_core.specs.Calls.{moment_after}
-use Rattle.desk_core.specs.Histories.{HasAcceptedHistory}
+use Rattle.desk_core.specs.Histories.{HasAcceptedHistory, IsSound}
 use Rattle.forecast.specs.Forecasts.{Proposal, proposed}
 use Rattle.http_front.specs.declared.replies.Replies as sinks
 use Rattle.http_front.specs.Counts.{GaveBytes, StreamEnds}
@@ -97,9 +97,10 @@ module _ (status : ℕ) where
 
       after_done : ForecastsAfter w history asked input first old new status → Foretold
       after_done after =
-          said_done after.said after.says
-          (subst (λ (p : Office). TellsSaid w asked (moment_after first p.last) p after.said old new status)
-          (same_Some after.office can.office (sym after.is_run ∙ can.is_run)) after.told)
+          let by = after.forecasts in
+          said_done by.said by.says
+          (subst (λ (p : Office). TellsSaid w asked (moment_after first p.last) p by.said old new status)
+          (same_Some after.office can.office (sym after.is_run ∙ can.is_run)) by.told)
 
   module _ (two : status ≡ 2 → ⊥) (five : status ≡ 5 → ⊥) where
     fault_done : (fault : OpenFault) → status ≡ fault_exit fault → Foretold
@@ -112,20 +113,21 @@ module _ (status : ℕ) where
     module _ {D C W : Type 0} (d : disks.Ghosts D) (k : clocks.Ghosts C) (w : sinks.Ghosts W) (tells : IsTrue d.honest)
         (three : status ≡ 3 → ⊥) (four : status ≡ 4 → ⊥) (eight : status ≡ 8 → ⊥)
         (history : List Entry) (asked : ForecastAsked) (bytes : List ℕ) (input : StreamEnds) (left : input.stream ≡ Some bytes) where
-      bucket_done : (first : ℕ) (old new : Surroundings D C W) → CanForecast history asked bytes first → HasAcceptedHistory history (d.state old.disk).journal.seen
+      bucket_done : (first : ℕ) (old new : Surroundings D C W) → CanForecast history asked bytes first → IsSound (d.state old.disk) → HasAcceptedHistory history (d.state old.disk).journal.seen
           → ForecastsBucket d w asked input first old new status → Foretold
-      bucket_done first old new can has f =
-          let same : f.history ≡ history = entries_unique header f.history history (d.state old.disk).journal.seen (f.read tells).entries has.entries in
+      bucket_done first old new can sound has f =
+          let known = f.sound tells sound in
+          let same : known.0 ≡ history = entries_unique header known.0 history (d.state old.disk).journal.seen known.1.entries has.entries in
           after_done w old.out new.out three four history asked bytes first can input left
-          (subst (λ (h : List Entry). ForecastsAfter w h asked input first old.out new.out status) same f.forecasts)
+          (subst (λ (h : List Entry). ForecastsAfter w h asked input first old.out new.out status) same known.2)
 
-      pub forecast_done : {left_alone : Type 0} (old new : Surroundings D C W) → CanForecast history asked bytes (k.last new.clock)
+      pub forecast_done : {left_alone : Type 0} (old new : Surroundings D C W) → CanForecast history asked bytes (k.last new.clock) → IsSound (d.state old.disk)
           → HasAcceptedHistory history (d.state old.disk).journal.seen → Forecasts d k w left_alone asked input old new status → Foretold
-      forecast_done old new can has starts =
+      forecast_done old new can sound has starts =
           ⊎_elim
           (λ does. ⊎_elim
           (λ (f : ForecastsBucket d w asked input starts.first (around old.disk starts.clock old.out) new status).
           bucket_done starts.first (around old.disk starts.clock old.out) new
-          (subst (λ (n : ℕ). CanForecast history asked bytes n) (ap k.last f.clock ∙ starts.is_last) can) has f)
-          (λ refused. fault_done refused.0.fault refused.0.status_is) does.1)
+          (subst (λ (n : ℕ). CanForecast history asked bytes n) (ap k.last f.clock ∙ starts.is_last) can) sound has f)
+          (λ refused. fault_done refused.0.fault refused.0.refused.status_is) does.1)
           (λ ends. absurd (eight ends.1.status_is)) starts.does

@@ -1,10 +1,8 @@
 -- What is told of a configuration.
-use Rattle.std.proofs.Common.{◌≡◌, ◌⊎◌, ◌∙◌, inl, inr, ⊎_elim, refl, sym, ap, subst, ℕ, ◌<◌, ◌≤◌, false, List, Some, Result, Ok, Err}
+use Rattle.std.proofs.Common.{◌≡◌, ◌⊎◌, ◌∙◌, inl, inr, ⊎_elim, refl, sym, ap, subst, ℕ, ◌<◌, ◌≤◌, false, Result, Ok, Err}
 use Rattle.std.proofs.lemmas.Bool.Decides.{leb_tells}
-use Rattle.office_types.specs.declared.command.Entry.{Entry}
 use Rattle.office_types.specs.declared.refusal.Refusal.{Refusal}
 use Rattle.plain_office.specs.Office.{Office}
-use Rattle.plain_office.specs.Run.{run}
 use Rattle.rules_core.specs.Configurations.{Configuration}
 use Rattle.command_line.specs.declared.line.ForecastAsked.{ForecastAsked}
 use Rattle.desk_core.specs.Calls.{moment_after}
@@ -20,7 +18,7 @@ use Rattle.office_commands.specs.Lines.{IsForecastExit}
 use Rattle.office_commands.specs.Running.{IsPutOut, RunsOut}
 use Rattle.office_commands.specs.Configuring.{SaysRules}
 use Rattle.office_commands.specs.declared.configuration.ConfigurationFault.{ConfigurationFault}
-use Rattle.office_commands.specs.Forecasting.{proposal, months_of, IsForetoldExit, TellsFailure, TellsProposal, TellsFault, TellsSaid, ForecastsAfter}
+use Rattle.office_commands.specs.Forecasting.{proposal, months_of, IsForetoldExit, TellsFailure, TellsProposal, TellsFault, TellsSaid, ForecastsBy}
 
 -- ---- a proposal
 
@@ -46,20 +44,17 @@ module _ {W : Type 0} (w : sinks.Ghosts W) (asked : Proposal) (office : Office) 
 
 -- ---- what the input says
 
-module _ {W : Type 0} (w : sinks.Ghosts W) (history : List Entry) (asked : ForecastAsked) (input : StreamEnds) (first : ℕ) (office : Office)
-    (is_run : run history ≡ Some office) (old new : W) (status : ℕ) where
+module _ {W : Type 0} (w : sinks.Ghosts W) (asked : ForecastAsked) (input : StreamEnds) (first : ℕ) (office : Office) (old new : W) (status : ℕ) where
   pub with_rules : (rules : Configuration) (t : ℕ) → t ≡ moment_after first office.last → SaysRules input (Ok rules)
-      → TellsProposal w (proposal asked rules t) office old new status → ForecastsAfter w history asked input first old new status
+      → TellsProposal w (proposal asked rules t) office old new status → ForecastsBy w office asked input first old new status
   with_rules rules t is says told = record {
-    office = office;
-    is_run = is_run;
     said = Ok rules;
     says = says;
     told = subst (λ (n : ℕ). TellsProposal w (proposal asked rules n) office old new status) is told;
   }
 
-  pub without : (fault : ConfigurationFault) → SaysRules input (Err fault) → TellsFault w fault old new status → ForecastsAfter w history asked input first old new status
-  without fault says told = record { office = office; is_run = is_run; said = Err fault; says = says; told = told }
+  pub without : (fault : ConfigurationFault) → SaysRules input (Err fault) → TellsFault w fault old new status → ForecastsBy w office asked input first old new status
+  without fault says told = record { said = Err fault; says = says; told = told }
 
 -- ---- statuses
 

@@ -1,7 +1,6 @@
 -- What the office answers to the query for a report.
 use Rattle.std.proofs.Common.{◌≡◌, inl, inr, ⊎_elim, refl, sym, subst, ℕ, List, Option, Some, None, Result, Ok, Err}
 use Rattle.tariff.specs.Prices.{Prices}
-use Rattle.office_types.specs.declared.command.Entry.{Entry}
 use Rattle.office_types.specs.declared.command.Query.TheVariants as query
 use Rattle.office_types.specs.declared.reply.Reply.{Reply}
 use Rattle.office_types.specs.declared.reply.Reply.TheVariants as reply
@@ -10,7 +9,7 @@ use Rattle.office_types.specs.declared.refusal.Refusal.TheVariants.{NoTariff}
 use Rattle.plain_office.specs.Answers.{answer}
 use Rattle.plain_office.specs.Charges.{tariff_for, report_lines}
 use Rattle.plain_office.specs.Office.{Office}
-use Rattle.desk_core.specs.Looking.{IsRead}
+use Rattle.desk_core.specs.Looking.{IsReplyOf}
 use Rattle.desk_core.specs.Calls.{moment_after}
 use Rattle.office_commands.specs.Reporting.{IsReportReply}
 
@@ -27,7 +26,7 @@ by_prices t month p None is = inr (inl (no_prices t month p is))
 by_prices t month p (Some tariff) is = inl (report_lines tariff month t p, with_prices t month p tariff is)
 
 -- it is a report, or that there is no tariff, or that memory ran out
-pub report_reply : (told month : ℕ) (history : List Entry) (r : Result Reply Refusal) → IsRead told (query.Report month) history r → IsReportReply r
-report_reply told month history r read = ⊎_elim
-    (λ is. subst IsReportReply (sym is) (by_prices (moment_after told read.plain.last) month read.plain (tariff_for month read.plain) refl))
-    (λ lacks. inr (inr lacks)) read.answered
+pub report_reply : (told month : ℕ) (p : Office) (r : Result Reply Refusal) → IsReplyOf told (query.Report month) p r → IsReportReply r
+report_reply told month p r answered = ⊎_elim
+    (λ is. subst IsReportReply (sym is) (by_prices (moment_after told p.last) month p (tariff_for month p) refl))
+    (λ lacks. inr (inr lacks)) answered

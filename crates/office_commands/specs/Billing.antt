@@ -23,11 +23,14 @@ use Rattle.bill_posting.specs.declared.posting.PostFault.TheVariants.{OtherBills
 use Rattle.bill_posting.specs.Bills.{bills_of}
 use Rattle.bill_posting.specs.Posting.{DoesPost, IsReceiptOf}
 use Rattle.desk_core.specs.declared.clock.Clock as clocks
-use Rattle.desk_core.specs.Histories.{HasAcceptedHistory}
-use Rattle.desk_core.specs.Looking.{IsRead}
+use Rattle.office_machine.specs.Once.{StandsFor}
+use Rattle.desk_core.specs.Desk.{DeskView}
+use Rattle.desk_core.specs.Histories.{HasAcceptedHistory, IsSound}
+use Rattle.desk_core.specs.Looking.{IsRead, IsReplyOf}
+use Rattle.desk_core.specs.Opening.{Opens}
 use Rattle.http_front.specs.declared.replies.Replies as sinks
 use Rattle.office_commands.specs.Lines.{line, open_month_note, other_bills_note, keeper_note}
-use Rattle.office_commands.specs.Running.{Surroundings, IsNoted, IsSilent, IsPutOut, RunsOut, Starts}
+use Rattle.office_commands.specs.Running.{journal_limit, Surroundings, IsNoted, IsSilent, IsPutOut, RunsOut, Starts}
 
 -- how the printed line begins: for bills that were posted before, and for bills posted now
 abbrev pub posting_words : Bool → List ℕ
@@ -110,25 +113,34 @@ module _ {W K : Type 0} (w : sinks.Ghosts W) (b : keepers.Ghosts K) where
       × (PostsLines lines one old new status ⊎ (RunsOut w old new status × LeavesKeeper one)))
       ⊎ ((IsClosed one.month office → ⊥) × EndsBilling w 12 open_month_note old new status × LeavesKeeper one)
 
-  -- The month is billed by the office after this history. Its report is as of a number that the clock told before, or
-  -- of the last moment, where that is later.
+  -- The month is billed by this office. Its report is as of a number that the clock told before, or of the last moment,
+  -- where that is later.
+  pub record BillsBy (office : Office) (one : Billing K) (first : ℕ) (old new : W) (status : ℕ) : Type 0 where
+    pub lines : List ReportLine
+    pub is_read : IsClosed one.month office
+        → IsReplyOf first (query.Report one.month) office (Ok (reply.Report lines))
+    pub billed : BillsOffice one office lines old new status
+
+  -- so it is by the office after this history
   pub record BillsAfter (history : List Entry) (one : Billing K) (first : ℕ) (old new : W) (status : ℕ) : Type 0 where
     pub office : Office
     pub is_run : run history ≡ Some office
-    pub lines : List ReportLine
-    pub is_read : IsClosed one.month office → IsRead first (query.Report one.month) history (Ok (reply.Report lines))
-    pub billed : BillsOffice one office lines old new status
+    pub bills : BillsBy office one first old new status
 
 module _ {D C W K : Type 0} (d : disks.Ghosts D) (w : sinks.Ghosts W) (b : keepers.Ghosts K) where
-  -- The journal was read, and the month is billed by the office after its history. The history stays: nothing is
-  -- written, each image is one that there was, the disk did not fail, and the clock tells no further number.
+  -- The office was opened, and bills the month. On a sound disk that is the office after the history of what the journal
+  -- reads. The history stays: nothing is written, each image is one that there was, the disk did not fail, and the clock
+  -- tells no further number.
   pub record BillsMonth (one : Billing K) (first : ℕ) (old new : Surroundings D C W) (status : ℕ) : Type 0 where
-    pub history : List Entry
-    pub read : IsTrue d.honest → HasAcceptedHistory history (d.state old.disk).journal.seen
+    pub desk : DeskView D C
+    pub opens : Opens d old.disk old.clock journal_limit desk
     pub any_moment : IsTrue d.honest → KeepsTo d old.disk new.disk (Narrower (d.state old.disk))
     pub quiet : d.fault_count new.disk ≡ d.fault_count old.disk
     pub clock : new.clock ≡ old.clock
-    pub billed : BillsAfter w b history one first old.out new.out status
+    pub billed : (office : Office) → StandsFor desk.office office → BillsBy w b office one first old.out new.out status
+    pub sound : IsTrue d.honest → IsSound (d.state old.disk)
+        → (history : List Entry) × HasAcceptedHistory history (d.state old.disk).journal.seen
+        × BillsAfter w b history one first old.out new.out status
 
 module _ {D C W K : Type 0} (d : disks.Ghosts D) (k : clocks.Ghosts C) (w : sinks.Ghosts W) (b : keepers.Ghosts K) where
   -- what `bill` does; where the journal is not opened, and where the clock is at its end, the keeper is left alone

@@ -6,7 +6,9 @@ use Rattle.disk_core.specs.Moments.{KeepsTo}
 use Rattle.desk_core.specs.declared.clock.Clock as clocks
 use Rattle.stay_explain.specs.Explaining.{IsTableOf}
 use Rattle.http_front.specs.declared.replies.Replies as sinks
-use Rattle.office_commands.specs.Running.{Surroundings, IsPutOut, FailsToOpen}
+use Rattle.meter_journal.specs.declared.fault.OpenFault.{OpenFault}
+use Rattle.desk_core.specs.Damage.{OpenFails}
+use Rattle.office_commands.specs.Running.{Surroundings, IsPutOut, IsRefused}
 
 module _ {D : Type 0} (d : disks.Ghosts D) where
   -- What was read is the journal file, and the text is the table of stays of its history: also of a disk that tells
@@ -27,6 +29,12 @@ module _ {D C W : Type 0} (d : disks.Ghosts D) (k : clocks.Ghosts C) (w : sinks.
     pub clock : new.clock ≡ old.clock
     pub told : IsPutOut w text old.out new.out status
 
-  -- so `explain` does, or the journal is refused as at an opening
+  -- The journal could not be read from its first gate on: its bytes tell why.
+  pub record FailsToRead (old new : Surroundings D C W) (status : ℕ) : Type 0 where
+    pub fault : OpenFault
+    pub why : IsTrue d.honest → OpenFails fault (d.state old.disk).journal.seen
+    pub refused : IsRefused d k w fault old new status
+
+  -- so `explain` does, or the journal is refused
   abbrev pub Explains : Surroundings D C W → Surroundings D C W → ℕ → Type 0
-  Explains old new status = TellsTable old new status ⊎ FailsToOpen d k w old new status
+  Explains old new status = TellsTable old new status ⊎ FailsToRead old new status

@@ -15,7 +15,10 @@ use Rattle.plain_office.specs.Step.{is_accepted}
 use Rattle.command_line.specs.declared.line.ForecastAsked.{ForecastAsked}
 use Rattle.desk_core.specs.declared.clock.Clock as clocks
 use Rattle.desk_core.specs.Calls.{moment_after}
-use Rattle.desk_core.specs.Histories.{HasAcceptedHistory}
+use Rattle.office_machine.specs.Once.{StandsFor}
+use Rattle.desk_core.specs.Desk.{DeskView}
+use Rattle.desk_core.specs.Histories.{HasAcceptedHistory, IsSound}
+use Rattle.desk_core.specs.Opening.{Opens}
 use Rattle.forecast.specs.Forecasts.{Proposal, Outlook, proposed, IsForecast}
 use Rattle.forecast.specs.declared.fault.ForecastFault.{ForecastFault}
 use Rattle.forecast.specs.declared.fault.ForecastFault.TheVariants as begins
@@ -27,7 +30,7 @@ use Rattle.office_commands.specs.Configuring.{most_configuration_bytes, SaysRule
 use Rattle.office_commands.specs.declared.configuration.ConfigurationFault.{ConfigurationFault}
 use Rattle.office_commands.specs.declared.configuration.ConfigurationFault.TheVariants as faults
 use Rattle.office_commands.specs.Lines.{end_note, refused_note}
-use Rattle.office_commands.specs.Running.{Surroundings, IsNoted, IsSilent, IsPutOut, RunsOut, Starts}
+use Rattle.office_commands.specs.Running.{journal_limit, Surroundings, IsNoted, IsSilent, IsPutOut, RunsOut, Starts}
 
 -- a forecast of this bucket by this day
 abbrev pub asking : List ℕ → ℕ → ForecastAsked
@@ -107,27 +110,36 @@ module _ {W : Type 0} (w : sinks.Ghosts W) where
   TellsSaid asked t office (Ok rules) old new status = TellsProposal (proposal asked rules t) office old new status
   TellsSaid asked t office (Err fault) old new status = TellsFault fault old new status
 
-  -- The forecast of the office after this history, as of the later of the clock's number and the last moment, for what
-  -- the input says.
-  pub record ForecastsAfter (history : List Entry) (asked : ForecastAsked) (input : StreamEnds) (first : ℕ) (old new : W)
+  -- The forecast of this office, as of the later of the clock's number and the last moment, for what the input says.
+  pub record ForecastsBy (office : Office) (asked : ForecastAsked) (input : StreamEnds) (first : ℕ) (old new : W)
       (status : ℕ) : Type 0 where
-    pub office : Office
-    pub is_run : run history ≡ Some office
     pub said : Result Configuration ConfigurationFault
     pub says : SaysRules input said
     pub told : TellsSaid asked (moment_after first office.last) office said old new status
 
+  -- so it is by the office after this history
+  pub record ForecastsAfter (history : List Entry) (asked : ForecastAsked) (input : StreamEnds) (first : ℕ) (old new : W)
+      (status : ℕ) : Type 0 where
+    pub office : Office
+    pub is_run : run history ≡ Some office
+    pub forecasts : ForecastsBy office asked input first old new status
+
 module _ {D C W : Type 0} (d : disks.Ghosts D) (w : sinks.Ghosts W) where
-  -- The journal was read, and what is said is the forecast by the office after its history. The history stays: nothing
-  -- is written, each image is one that there was, the disk did not fail, and the clock tells no further number.
+  -- The office was opened, and what is said is its forecast. On a sound disk that is the office after the history of what
+  -- the journal reads. The history stays: nothing is written, each image is one that there was, the disk did not fail,
+  -- and the clock tells no further number.
   pub record ForecastsBucket (asked : ForecastAsked) (input : StreamEnds) (first : ℕ) (old new : Surroundings D C W)
       (status : ℕ) : Type 0 where
-    pub history : List Entry
-    pub read : IsTrue d.honest → HasAcceptedHistory history (d.state old.disk).journal.seen
+    pub desk : DeskView D C
+    pub opens : Opens d old.disk old.clock journal_limit desk
     pub any_moment : IsTrue d.honest → KeepsTo d old.disk new.disk (Narrower (d.state old.disk))
     pub quiet : d.fault_count new.disk ≡ d.fault_count old.disk
     pub clock : new.clock ≡ old.clock
-    pub forecasts : ForecastsAfter w history asked input first old.out new.out status
+    pub forecasts : (office : Office) → StandsFor desk.office office
+        → ForecastsBy w office asked input first old.out new.out status
+    pub sound : IsTrue d.honest → IsSound (d.state old.disk)
+        → (history : List Entry) × HasAcceptedHistory history (d.state old.disk).journal.seen
+        × ForecastsAfter w history asked input first old.out new.out status
 
 module _ {D C W : Type 0} (d : disks.Ghosts D) (k : clocks.Ghosts C) (w : sinks.Ghosts W) where
   -- what `forecast` does with an input; where the journal is not opened, and where the clock is at its end, the input is

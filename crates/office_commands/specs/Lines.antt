@@ -1,24 +1,36 @@
 -- The statuses of the program, and the lines that it prints.
-use Rattle.std.specs.Prelude.{◌≡◌, ◌⊎◌, ℕ, Bool, true, false, List, [], ◌∷◌, ◌++◌, codes, decimal}
+use Rattle.std.specs.Prelude.{◌≡◌, ◌⊎◌, ℕ, Bool, true, false, List, [], ◌∷◌, ◌++◌, Result, Err, codes, decimal}
 use Rattle.meter_journal.specs.declared.fault.OpenFault.{OpenFault}
 use Rattle.meter_journal.specs.declared.fault.OpenFault.TheVariants as faults
 use Rattle.meter_journal.specs.declared.making.Made.{Made}
 use Rattle.meter_journal.specs.declared.making.Made.TheVariants as mades
+use Rattle.slots.specs.declared.fault.SaveFault.{SaveFault}
+use Rattle.slots.specs.declared.fault.SaveFault.TheVariants as saves
 use Rattle.http_front.specs.declared.answering.SessionEnd.{SessionEnd}
 use Rattle.http_front.specs.declared.answering.SessionEnd.TheVariants as ends
 
 -- ---- statuses (own)
 
--- of a run whose session ended so, with a desk that is stale then or not; where two hold, the first of 4, 3, 9, 2 and 6
+-- of a run whose session ended so, with a store that failed or not; where two hold, the first of 4, 3, 9, 2 and 6
 -- (own)
 abbrev pub session_exit : SessionEnd → Bool → ℕ
-session_exit ends.WriteFault stale = 4
-session_exit ends.ReadFault stale = 3
-session_exit ends.Spent stale = 9
+session_exit ends.WriteFault failed = 4
+session_exit ends.ReadFault failed = 3
+session_exit ends.Spent failed = 9
 session_exit ends.NoMemory true = 2
 session_exit ends.NoMemory false = 6
 session_exit ends.Ended true = 2
 session_exit ends.Ended false = 0
+
+-- how a session ended, once its office was closed: memory ran out where there was none for the checkpoint (own)
+abbrev pub end_after : SessionEnd → Result (Unit {0}) SaveFault → SessionEnd
+end_after ends.Ended (Err saves.NoMemory) = ends.NoMemory
+end_after end saved = end
+
+-- whether the store failed: the desk is stale, or the disk failed while the checkpoint was saved
+abbrev pub store_after : Bool → Result (Unit {0}) SaveFault → Bool
+store_after stale (Err saves.StoreFault) = true
+store_after stale saved = stale
 
 -- of a journal that was not opened, or not made
 abbrev pub fault_exit : OpenFault → ℕ
@@ -30,7 +42,7 @@ fault_exit faults.NoMemory = 6
 
 -- the status of a session, however it ended
 abbrev pub IsSessionExit : ℕ → Type 0
-IsSessionExit status = (end : SessionEnd) × (stale : Bool) × (status ≡ session_exit end stale)
+IsSessionExit status = (end : SessionEnd) × (failed : Bool) × (status ≡ session_exit end failed)
 
 -- the status of a command that opens the office for a session, or cannot open it
 abbrev pub IsRunExit : ℕ → Type 0
@@ -93,11 +105,11 @@ keeper_note = line (codes "bills: failed")
 unfoldable pub refused_note : ℕ → List ℕ
 refused_note number = line (codes "forecast: refused " ++ decimal number)
 
--- of the end of a session, with a desk that is stale then or not; nothing where all was done
+-- of the end of a session, with a store that failed or not; nothing where all was done
 unfoldable pub end_note : SessionEnd → Bool → List ℕ
-end_note ends.WriteFault stale = line (codes "output: failed")
-end_note ends.ReadFault stale = line (codes "input: failed")
-end_note ends.Spent stale = line (codes "input: too long")
+end_note ends.WriteFault failed = line (codes "output: failed")
+end_note ends.ReadFault failed = line (codes "input: failed")
+end_note ends.Spent failed = line (codes "input: too long")
 end_note ends.NoMemory true = line (codes "store: failed")
 end_note ends.NoMemory false = line (codes "memory: refused")
 end_note ends.Ended true = line (codes "store: failed")

@@ -13,8 +13,12 @@ use Rattle.office_types.specs.declared.refusal.Refusal.TheVariants.{NoTariff, No
 use Rattle.usage_report.specs.Csv.{report_csv}
 use Rattle.usage_report.specs.Tables.{report_text}
 use Rattle.desk_core.specs.declared.clock.Clock as clocks
-use Rattle.desk_core.specs.Histories.{HasAcceptedHistory}
-use Rattle.desk_core.specs.Looking.{IsRead}
+use Rattle.plain_office.specs.Office.{Office}
+use Rattle.office_machine.specs.Once.{StandsFor}
+use Rattle.desk_core.specs.Desk.{DeskView}
+use Rattle.desk_core.specs.Histories.{HasAcceptedHistory, IsSound}
+use Rattle.desk_core.specs.Opening.{Opens}
+use Rattle.desk_core.specs.Looking.{IsRead, IsReplyOf}
 use Rattle.http_front.specs.declared.replies.Replies as sinks
 use Rattle.office_commands.specs.Lines.{tariff_note}
 use Rattle.office_commands.specs.Running.{Surroundings, IsNoted, IsSilent, IsPutOut, RunsOut, Starts}
@@ -37,18 +41,21 @@ module _ {W : Type 0} (w : sinks.Ghosts W) where
   TellsReport as_text _ old new status = ⊥
 
 module _ {D C W : Type 0} (d : disks.Ghosts D) (w : sinks.Ghosts W) where
-  -- The journal was read: what is said is the report of the month by the office after its history, as of the later of
-  -- the clock's first number and the last moment; or memory ran out. Nothing is written, the disk did not fail, and
-  -- the clock tells no further number.
+  -- The office was opened: what is said is its report of the month, as of the later of the clock's first number and the
+  -- last moment; or memory ran out. On a sound disk that is the office after the history of what the journal reads.
+  -- Nothing is written, the disk did not fail, and the clock tells no further number.
   pub record TellsMonth (month : ℕ) (as_text : Bool) (first : ℕ) (old new : Surroundings D C W) (status : ℕ) : Type 0
     where
-      pub history : List Entry
-      pub read : IsTrue d.honest → HasAcceptedHistory history (d.state old.disk).journal.seen
+      pub desk : DeskView D C
+      pub opens : Opens d old.disk old.clock journal_limit desk
       pub any_moment : IsTrue d.honest → KeepsTo d old.disk new.disk (Narrower (d.state old.disk))
       pub quiet : d.fault_count new.disk ≡ d.fault_count old.disk
       pub clock : new.clock ≡ old.clock
       pub reply : Result Reply Refusal
-      pub is_read : IsRead first (query.Report month) history reply
+      pub answered : (office : Office) → StandsFor desk.office office → IsReplyOf first (query.Report month) office reply
+      pub sound : IsTrue d.honest → IsSound (d.state old.disk)
+          → (history : List Entry) × HasAcceptedHistory history (d.state old.disk).journal.seen
+          × IsRead first (query.Report month) history reply
       pub told : TellsReport w as_text reply old.out new.out status ⊎ RunsOut w old.out new.out status
 
 module _ {D C W : Type 0} (d : disks.Ghosts D) (k : clocks.Ghosts C) (w : sinks.Ghosts W) where

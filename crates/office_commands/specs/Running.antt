@@ -9,7 +9,7 @@ use Rattle.disk_core.specs.Moments.{KeepsTo}
 use Rattle.meter_journal.specs.declared.fault.OpenFault.{OpenFault}
 use Rattle.meter_journal.specs.declared.fault.OpenFault.TheVariants.{StoreFault}
 use Rattle.desk_core.specs.declared.clock.Clock as clocks
-use Rattle.desk_core.specs.Damage.{OpenFails}
+use Rattle.desk_core.specs.Damage.{OpenFailsOn}
 use Rattle.desk_core.specs.Runs.{Outside, outside, AnswersCalls, stale_by}
 use Rattle.http_wire.specs.Held.{take_limit}
 use Rattle.http_front.specs.declared.replies.Replies as sinks
@@ -19,7 +19,7 @@ use Rattle.http_front.specs.Exchanges.{calls_of, moments_of}
 use Rattle.http_front.specs.Session.{Transcript}
 use Rattle.http_front.specs.declared.answering.SessionEnd.{SessionEnd}
 use Rattle.http_front.specs.declared.answering.SessionEnd.TheVariants.{NoMemory, WriteFault}
-use Rattle.office_commands.specs.Lines.{session_exit, fault_exit, clock_note, end_note, fault_note}
+use Rattle.office_commands.specs.Lines.{session_exit, end_after, store_after, fault_exit, clock_note, end_note, fault_note}
 
 -- the journal of the program has at most 2^30 bytes
 abbrev pub journal_limit : ℕ
@@ -104,22 +104,29 @@ module _ {D C W : Type 0} (d : disks.Ghosts D) (k : clocks.Ghosts C) (w : sinks.
     -- at most 2^40 bytes of the input are taken
     pub taken : (n : ℕ) × (n ≤ take_limit) × GaveBytes read.stream read.left n
     pub no_text : w.texts new.out ≡ w.texts old.out
-    pub status_is : status ≡ session_exit end (stale_by false (calls_of talk.spoken.exchanges))
-    pub note : EndsWithNote w old.out new.out status (end_note end (stale_by false (calls_of talk.spoken.exchanges)))
+    -- by the end of the session, and by what closing the office gave
+    pub status_is : status ≡ session_exit (end_after end answers.calls_are.saved)
+        (store_after (stale_by false (calls_of talk.spoken.exchanges)) answers.calls_are.saved)
+    pub note : EndsWithNote w old.out new.out status (end_note (end_after end answers.calls_are.saved)
+        (store_after (stale_by false (calls_of talk.spoken.exchanges)) answers.calls_are.saved))
 
   -- ---- both
 
-  -- The office was not opened: nothing was said or told, and each image is one that there was. Where the disk failed
-  -- that is told, and nothing else.
-  pub record FailsToOpen (old new : Surroundings D C W) (status : ℕ) : Type 0 where
-    pub fault : OpenFault
-    pub why : IsTrue d.honest → OpenFails fault (d.state old.disk).journal.seen
+  -- It ends by this fault: nothing was said or told, and each image is one that there was. Where the disk failed that is
+  -- told, and nothing else.
+  pub record IsRefused (fault : OpenFault) (old new : Surroundings D C W) (status : ℕ) : Type 0 where
     pub quiet : (fault ≡ StoreFault → ⊥) → d.fault_count new.disk ≡ d.fault_count old.disk
     pub any_moment : IsTrue d.honest → KeepsTo d old.disk new.disk (Narrower (d.state old.disk))
     pub clock : new.clock ≡ old.clock
     pub silent : IsSilent w old.out new.out
     pub status_is : status ≡ fault_exit fault
     pub note : IsNoted w old.out new.out (fault_note fault)
+
+  -- The office was not opened, and the files as they are read tell why.
+  pub record FailsToOpen (old new : Surroundings D C W) (status : ℕ) : Type 0 where
+    pub fault : OpenFault
+    pub why : IsTrue d.honest → OpenFailsOn fault (d.state old.disk)
+    pub refused : IsRefused fault old new status
 
   -- The clock is at its end: nothing was said or told, and the disk was not touched.
   pub record Ends (old new : Surroundings D C W) (status : ℕ) : Type 0 where

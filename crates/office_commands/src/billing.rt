@@ -5,17 +5,17 @@ ghost use Rattle.moments.specs.Time.{end_of_time};
 ghost use Rattle.office_base.specs.Faults.{Rose};
 ghost use Rattle.office_types.specs.Fits.{AnswerFits};
 ghost use Rattle.office_types.specs.Reports.{charges};
-ghost use Rattle.office_types.specs.declared.command.Entry.{Entry};
 ghost use Rattle.bill_posting.specs.Bills.{bills_of};
 ghost use Rattle.bill_posting.specs.declared.posting.PostFault.TheVariants.{KeeperFault};
-ghost use Rattle.desk_core.specs.Desk.{HoldsHistory};
-ghost use Rattle.desk_core.specs.Histories.{HasAcceptedHistory};
+ghost use Rattle.plain_office.specs.Office as plain;
+ghost use Rattle.office_machine.specs.Once.{StandsFor};
+ghost use Rattle.desk_core.specs.Histories.{IsSound};
 ghost use Rattle.desk_core.specs.Opening.{Opens};
 ghost use Rattle.office_commands.specs.Lines.{IsBillExit};
 ghost use Rattle.office_commands.specs.Running.{journal_limit, around, IsPutOut, FailsToOpen};
 ghost use Rattle.office_commands.specs.Running.{SaysNoReply, NotesNothing};
 ghost use Rattle.office_commands.specs.Billing.{posting_words, receipt_line, billing, EndsBilling, TellsPosting, PostsLines, PostsReply};
-ghost use Rattle.office_commands.specs.Billing.{BillsAfter, BillsMonth, Bills, MayBePosted, IsPostExit, IsPosted};
+ghost use Rattle.office_commands.specs.Billing.{BillsBy, BillsMonth, Bills, MayBePosted, IsPostExit, IsPosted};
 
 use crate::end::{End, JOURNAL_LIMIT};
 use crate::lines::{
@@ -180,11 +180,11 @@ fn bill_by<W: Replies, K: BillKeeper, D: Disk + Drop, C: Clock + Drop>(
     told: u64,
     month: Month,
 ) -> u8
-    requires holds { (history : List Entry) × HoldsHistory D.Disk history desk.now }
+    requires stands { (office : plain.Office) × StandsFor desk.now.office office }
     requires fresh { desk.now.stale ≡ false }
     requires begun { told < end_of_time }
-    ensures bills { (history : List Entry) → HoldsHistory D.Disk history desk.now
-        → BillsAfter W.Replies K.BillKeeper history (billing month keeper.old keeper.new) told out.old out.new result }
+    ensures bills { (office : plain.Office) → StandsFor desk.now.office office
+        → BillsBy W.Replies K.BillKeeper office (billing month keeper.old keeper.new) told out.old out.new result }
     ensures unsaid { SaysNoReply W.Replies out.old out.new }
     ensures later { (W.faults out.old ≤ W.faults out.new) × (K.faults keeper.old ≤ K.faults keeper.new) }
     ensures statuses { (result ≡ 12) ⊎ IsPostExit result }
@@ -226,7 +226,7 @@ fn bill_then_close<W: Replies, K: BillKeeper, D: Disk + Drop, C: Clock + Drop>(
     ensures keeper_done { result.status ≡ 0 → K.faults keeper.new ≡ K.faults keeper.old }
 {
     let status = bill_by(alloc, out, keeper, &desk, told, month);
-    // Nothing is saved yet. Once it is, a fault of the store (2) comes before all statuses but 4.
+    // The journal did not grow, so no checkpoint is saved.
     let (disk, clock, _) = desk.finish();
     End {
         status,
@@ -251,8 +251,7 @@ fn work<W: Replies, K: BillKeeper, D: Disk + Drop, C: Clock + Drop>(
         (around disk clock out.old) (around result.disk result.clock out.new) result.status
         ⊎ (FailsToOpen D.Disk C.Clock W.Replies (around disk clock out.old)
         (around result.disk result.clock out.new) result.status × (keeper.new ≡ keeper.old)) }
-    ensures sound { IsTrue D.honest → (history : List Entry)
-        → HasAcceptedHistory history (D.state disk).journal.seen → result.status ≡ 5 → ⊥ }
+    ensures sound { IsTrue D.honest → IsSound (D.state disk) → result.status ≡ 5 → ⊥ }
     ensures unopened { result.status ≡ 5 → keeper.new ≡ keeper.old }
     ensures unsaid { SaysNoReply W.Replies out.old out.new }
     ensures later { (W.faults out.old ≤ W.faults out.new) × ((K.faults keeper.old ≤ K.faults keeper.new)
@@ -291,8 +290,7 @@ pub fn bill<W: Replies, K: BillKeeper, D: Disk + Drop, C: Clock + Drop>(
 ) -> End<D, C>
     ensures bills { Bills D.Disk C.Clock W.Replies K.BillKeeper (billing asked.now.month keeper.old keeper.new)
         (around disk clock out.old) (around result.disk result.clock out.new) result.status }
-    ensures sound { IsTrue D.honest → (history : List Entry)
-        → HasAcceptedHistory history (D.state disk).journal.seen → result.status ≡ 5 → ⊥ }
+    ensures sound { IsTrue D.honest → IsSound (D.state disk) → result.status ≡ 5 → ⊥ }
     ensures unopened { (result.status ≡ 5) ⊎ (result.status ≡ 8) → keeper.new ≡ keeper.old }
     ensures unsaid { SaysNoReply W.Replies out.old out.new }
     ensures later { (W.faults out.old ≤ W.faults out.new) × ((K.faults keeper.old ≤ K.faults keeper.new)

@@ -1,15 +1,13 @@
 // Foretelling what a configuration would do to a bucket, and charge.
-ghost use Rattle.std.specs.Prelude.{◌≡◌, ◌≤◌, ◌⊎◌, ◌<◌, ◌^◌, max, List, false, IsTrue};
+ghost use Rattle.std.specs.Prelude.{◌≡◌, ◌≤◌, ◌⊎◌, ◌<◌, ◌^◌, max, false, IsTrue};
 ghost use Rattle.moments.specs.Months.{month_at};
 ghost use Rattle.moments.specs.Time.{end_of_time};
 ghost use Rattle.office_base.specs.Faults.{Rose};
-ghost use Rattle.office_types.specs.declared.command.Entry.{Entry};
 ghost use Rattle.plain_office.specs.Office as plain;
 ghost use Rattle.plain_office.specs.Run.{is_not_before};
 ghost use Rattle.office_machine.specs.Once.{StandsFor};
 ghost use Rattle.desk_core.specs.Calls.{moment_after};
-ghost use Rattle.desk_core.specs.Desk.{HoldsHistory};
-ghost use Rattle.desk_core.specs.Histories.{HasAcceptedHistory};
+ghost use Rattle.desk_core.specs.Histories.{IsSound};
 ghost use Rattle.desk_core.specs.Opening.{Opens};
 ghost use Rattle.forecast.specs.Forecasts.{Outlook};
 ghost use Rattle.forecast.specs.Telling.{Foretells};
@@ -19,7 +17,7 @@ ghost use Rattle.office_commands.specs.Lines.{IsForecastExit};
 ghost use Rattle.office_commands.specs.Running.{journal_limit, around, IsPutOut, RunsOut, FailsToOpen};
 ghost use Rattle.office_commands.specs.Running.{SaysNoReply, NotesNothing};
 ghost use Rattle.office_commands.specs.Forecasting.{proposal, IsForetoldExit, MayRefuse, MayFail, IsRefusalNumber};
-ghost use Rattle.office_commands.specs.Forecasting.{RefusesForecast, TellsFailure, TellsProposal, TellsFault, ForecastsAfter};
+ghost use Rattle.office_commands.specs.Forecasting.{RefusesForecast, TellsFailure, TellsProposal, TellsFault, ForecastsBy};
 ghost use Rattle.office_commands.specs.Forecasting.{ForecastsBucket, Forecasts};
 
 use crate::configuration::{ConfigurationFault, fault_number, read_configuration};
@@ -187,10 +185,10 @@ fn foretell_by<S: Source, W: Replies, D: Disk + Drop, C: Clock + Drop>(
     told: Moment,
     asked: &ForecastAsked,
 ) -> u8
-    requires holds { (history : List Entry) × HoldsHistory D.Disk history desk.now }
+    requires stands { (office : plain.Office) × StandsFor desk.now.office office }
     requires fresh { desk.now.stale ≡ false }
-    ensures forecasts { (history : List Entry) → HoldsHistory D.Disk history desk.now
-        → ForecastsAfter W.Replies history asked.now (stream_ends (S.left input.old) (S.left input.new)) told
+    ensures forecasts { (office : plain.Office) → StandsFor desk.now.office office
+        → ForecastsBy W.Replies office asked.now (stream_ends (S.left input.old) (S.left input.new)) told
         out.old out.new result }
     ensures unsaid { SaysNoReply W.Replies out.old out.new }
     ensures later { (S.faults input.old ≤ S.faults input.new) × (W.faults out.old ≤ W.faults out.new) }
@@ -221,7 +219,6 @@ fn foretell_then_close<S: Source, W: Replies, D: Disk + Drop, C: Clock + Drop>(
 ) -> End<D, C>
     requires opens { (disk : D) × (clock : C) × Opens D.Disk disk clock journal_limit desk }
     requires fresh { desk.stale ≡ false }
-
     ensures forecasts { (disk : D) (clock : C) → Opens D.Disk disk clock journal_limit desk
         → ForecastsBucket D.Disk W.Replies asked.now (stream_ends (S.left input.old) (S.left input.new)) told
         (around disk clock out.old) (around result.disk result.clock out.new) result.status }
@@ -235,6 +232,7 @@ fn foretell_then_close<S: Source, W: Replies, D: Disk + Drop, C: Clock + Drop>(
     ensures unnoted { result.status ≡ 0 → NotesNothing W.Replies out.old out.new }
 {
     let status = foretell_by(alloc, input, out, &desk, told, asked);
+    // The journal did not grow, so no checkpoint is saved.
     let (disk, clock, _) = desk.finish();
     End {
         status,
@@ -257,8 +255,7 @@ fn work<S: Source, W: Replies, D: Disk + Drop, C: Clock + Drop>(
         (around disk clock out.old) (around result.disk result.clock out.new) result.status
         ⊎ (FailsToOpen D.Disk C.Clock W.Replies (around disk clock out.old)
         (around result.disk result.clock out.new) result.status × (input.new ≡ input.old)) }
-    ensures sound { IsTrue D.honest → (history : List Entry)
-        → HasAcceptedHistory history (D.state disk).journal.seen → result.status ≡ 5 → ⊥ }
+    ensures sound { IsTrue D.honest → IsSound (D.state disk) → result.status ≡ 5 → ⊥ }
     ensures unopened { result.status ≡ 5 → input.new ≡ input.old }
     ensures unsaid { SaysNoReply W.Replies out.old out.new }
     ensures later { (S.faults input.old ≤ S.faults input.new) × ((W.faults out.old ≤ W.faults out.new)
@@ -297,8 +294,7 @@ pub fn foretell<S: Source, W: Replies, D: Disk + Drop, C: Clock + Drop>(
     ensures forecasts { Forecasts D.Disk C.Clock W.Replies (input.new ≡ input.old) asked.now
         (stream_ends (S.left input.old) (S.left input.new))
         (around disk clock out.old) (around result.disk result.clock out.new) result.status }
-    ensures sound { IsTrue D.honest → (history : List Entry)
-        → HasAcceptedHistory history (D.state disk).journal.seen → result.status ≡ 5 → ⊥ }
+    ensures sound { IsTrue D.honest → IsSound (D.state disk) → result.status ≡ 5 → ⊥ }
     ensures unopened { (result.status ≡ 5) ⊎ (result.status ≡ 8) → input.new ≡ input.old }
     ensures unsaid { SaysNoReply W.Replies out.old out.new }
     ensures later { (S.faults input.old ≤ S.faults input.new) × ((W.faults out.old ≤ W.faults out.new)

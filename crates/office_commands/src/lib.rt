@@ -22,4 +22,4 @@ pub use lines::{MEMORY, STORE, USAGE, end_line, note_line, refuse_words, usage};
 pub use loading::load;
 pub use making::init;
 pub use reporting::report;
-pub use running::{end_at_clock, has_begun, refuse, run};
+pub use running::{end_at_clock, has_begun, refuse, run, store_failed};

@@ -6,7 +6,7 @@ ghost use Rattle.office_types.specs.Fits.{AnswerFits};
 ghost use Rattle.office_types.specs.declared.command.Entry.{Entry};
 ghost use Rattle.office_types.specs.declared.reply.Reply.TheVariants as report_of;
 ghost use Rattle.office_types.specs.Reports.{charges};
-ghost use Rattle.desk_core.specs.Histories.{HasAcceptedHistory};
+ghost use Rattle.desk_core.specs.Histories.{IsSound};
 ghost use Rattle.desk_core.specs.Opening.{Opens};
 ghost use Rattle.office_commands.specs.Lines.{tariff_note, IsReportExit};
 ghost use Rattle.office_commands.specs.Running.{journal_limit, around, IsNoted, IsSilent, RunsOut, FailsToOpen};
@@ -120,6 +120,7 @@ fn say_report<W: Replies, D: Disk + Drop, C: Clock + Drop>(
     ensures unnoted { result.status ≡ 0 → NotesNothing W.Replies out.old out.new }
 {
     let reply = desk.look(told, &Query::Report(month));
+    // The journal did not grow, so no checkpoint is saved.
     let (disk, clock, _) = desk.finish();
     let status = say_reply(alloc, out, &reply, as_text);
     End {
@@ -145,8 +146,7 @@ fn work<W: Replies, D: Disk + Drop, C: Clock + Drop>(
         (around result.disk result.clock out.new) result.status
         ⊎ FailsToOpen D.Disk C.Clock W.Replies (around disk clock out.old)
         (around result.disk result.clock out.new) result.status }
-    ensures sound { IsTrue D.honest → (history : List Entry)
-        → HasAcceptedHistory history (D.state disk).journal.seen → result.status ≡ 5 → ⊥ }
+    ensures sound { IsTrue D.honest → IsSound (D.state disk) → result.status ≡ 5 → ⊥ }
     ensures unsaid { SaysNoReply W.Replies out.old out.new }
     ensures later { (W.faults out.old ≤ W.faults out.new) × (D.fault_count disk ≤ D.fault_count result.disk) }
     ensures statuses { IsReportExit result.status }
@@ -174,8 +174,7 @@ pub fn report<W: Replies, D: Disk + Drop, C: Clock + Drop>(
 ) -> End<D, C>
     ensures reports { Reports D.Disk C.Clock W.Replies asked.now.month asked.now.as_text (around disk clock out.old)
         (around result.disk result.clock out.new) result.status }
-    ensures sound { IsTrue D.honest → (history : List Entry)
-        → HasAcceptedHistory history (D.state disk).journal.seen → result.status ≡ 5 → ⊥ }
+    ensures sound { IsTrue D.honest → IsSound (D.state disk) → result.status ≡ 5 → ⊥ }
     ensures unsaid { SaysNoReply W.Replies out.old out.new }
     ensures later { (W.faults out.old ≤ W.faults out.new) × (D.fault_count disk ≤ D.fault_count result.disk) }
     ensures statuses { (result.status ≡ 8) ⊎ IsReportExit result.status }

@@ -1,15 +1,15 @@
 // Answering the messages of a stream.
 ghost use Rattle.std.specs.Prelude.{◌≡◌, ◌≤◌, ◌⊎◌, ◌<◌, ◌+◌, ◌-◌, ◌^◌, ◌∷◌, []};
-ghost use Rattle.std.specs.Prelude.{min, List, Option, None, IfSome, false, IsOk, IsTrue};
+ghost use Rattle.std.specs.Prelude.{min, List, Option, None, IfSome, false, IsTrue};
 ghost use Rattle.std.specs.Io.KnownBytes.{Appends};
 ghost use Rattle.moments.specs.Time.{end_of_time};
 ghost use Rattle.office_base.specs.Faults.{Rose};
 ghost use Rattle.http_wire.specs.Held.{take_limit};
 ghost use Rattle.office_types.specs.declared.command.Entry.{Entry};
-ghost use Rattle.desk_core.specs.Histories.{HasAcceptedHistory};
+ghost use Rattle.desk_core.specs.Histories.{IsSound};
 ghost use Rattle.desk_core.specs.Opening.{Opens};
 ghost use Rattle.http_front.specs.Counts.{GaveBytes, stream_ends};
-ghost use Rattle.office_commands.specs.Lines.{fault_exit, fault_note, IsSessionExit, IsRunExit};
+ghost use Rattle.office_commands.specs.Lines.{end_after, store_after, fault_exit, fault_note, IsSessionExit, IsRunExit};
 ghost use Rattle.office_commands.specs.Running.{journal_limit, around, IsNoted, IsSilent, NotesNothing};
 ghost use Rattle.office_commands.specs.Running.{AnswersStream, FailsToOpen, Ends, Runs};
 
@@ -17,17 +17,33 @@ use crate::end::{End, JOURNAL_LIMIT};
 use crate::lines::{CLOCK_END, clock_line, end_line, note_fault, note_line, open_exit, run_exit};
 use desk_core::{Clock, Desk, SaveFault};
 use disk_core::Disk;
-use http_front::{Replies, session};
+use http_front::{Replies, SessionEnd, session};
 use http_wire::Source;
 use meter_journal::OpenFault;
 use moments::Moment;
 use std::alloc::Global;
 
-// Whether the store failed: the desk is stale at its end, or its checkpoint could not be kept.
-fn store_failed(stale: bool, saved: Result<(), SaveFault>) -> bool
-    ensures { IsOk saved → result ≡ stale }
+/// Tells whether the store failed: the desk is stale at its end, or the disk failed while its checkpoint was saved.
+pub fn store_failed(stale: bool, saved: &Result<(), SaveFault>) -> bool
+    ensures { result ≡ store_after stale saved.now }
 {
-    stale || saved.is_err()
+    match saved {
+        Err(SaveFault::StoreFault) => true,
+        _ => stale,
+    }
+}
+
+// How the session ended, once its office was closed.
+fn ended(end: SessionEnd, saved: &Result<(), SaveFault>) -> SessionEnd
+    ensures { result ≡ end_after end saved.now }
+{
+    match end {
+        SessionEnd::Ended => match saved {
+            Err(SaveFault::NoMemory) => SessionEnd::NoMemory,
+            _ => SessionEnd::Ended,
+        },
+        other => other,
+    }
 }
 
 // Runs one session on an open desk.
@@ -57,10 +73,11 @@ fn answer<S: Source, W: Replies, D: Disk + Drop, C: Clock + Drop>(
     let end = session(alloc, input, out, &mut desk);
     let stale = desk.stale();
     let (disk, clock, saved) = desk.finish();
-    let store = store_failed(stale, saved);
-    note_line(out, end_line(end, store));
+    let store = store_failed(stale, &saved);
+    let outcome = ended(end, &saved);
+    note_line(out, end_line(outcome, store));
     End {
-        status: run_exit(end, store),
+        status: run_exit(outcome, store),
         disk,
         clock,
     }
@@ -102,8 +119,7 @@ fn work<S: Source, W: Replies, D: Disk + Drop, C: Clock + Drop>(
         (around result.disk result.clock out.new) result.status
         ⊎ (FailsToOpen D.Disk C.Clock W.Replies (around disk clock out.old) (around result.disk result.clock out.new)
         result.status × (input.new ≡ input.old)) }
-    ensures sound { IsTrue D.honest → (history : List Entry)
-        → HasAcceptedHistory history (D.state disk).journal.seen → result.status ≡ 5 → ⊥ }
+    ensures sound { IsTrue D.honest → IsSound (D.state disk) → result.status ≡ 5 → ⊥ }
     ensures no_text { W.texts out.new ≡ W.texts out.old }
     ensures later { (S.faults input.old ≤ S.faults input.new) × (W.faults out.old ≤ W.faults out.new)
         × (D.fault_count disk ≤ D.fault_count result.disk) }
@@ -176,8 +192,7 @@ pub fn run<S: Source, W: Replies, D: Disk + Drop, C: Clock + Drop>(
     ensures runs { Runs D.Disk C.Clock W.Replies (input.new ≡ input.old)
         (stream_ends (S.left input.old) (S.left input.new)) (around disk clock out.old)
         (around result.disk result.clock out.new) result.status }
-    ensures sound { IsTrue D.honest → (history : List Entry)
-        → HasAcceptedHistory history (D.state disk).journal.seen → result.status ≡ 5 → ⊥ }
+    ensures sound { IsTrue D.honest → IsSound (D.state disk) → result.status ≡ 5 → ⊥ }
     ensures no_text { W.texts out.new ≡ W.texts out.old }
     ensures later { (S.faults input.old ≤ S.faults input.new) × (W.faults out.old ≤ W.faults out.new)
         × (D.fault_count disk ≤ D.fault_count result.disk) }

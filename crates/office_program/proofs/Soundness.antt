@@ -3,7 +3,7 @@ use Rattle.std.proofs.Common.{⊎_elim, inl, inr, ℕ, Bool, List, subst, sym}
 use Rattle.std.specs.Prelude.{IsTrue}
 use Rattle.disk_core.specs.declared.disk.Disk as disks
 use Rattle.disk_core.specs.Moments.{KeepsTo}
-use Rattle.disk_core.proofs.Time.{weakened, joined}
+use Rattle.disk_core.proofs.Time.{weakened}
 use Rattle.office_types.specs.declared.command.Entry.{Entry}
 use Rattle.meter_journal.specs.Reading.{IsNotMade, IsForeign}
 use Rattle.meter_journal.proofs.Heads.{history_made, made_not_none, made_not_foreign}
@@ -11,7 +11,7 @@ use Rattle.desk_core.specs.declared.clock.Clock as clocks
 use Rattle.desk_core.specs.Answers.{Call}
 use Rattle.desk_core.specs.Histories.{HasAcceptedHistory, IsSound}
 use Rattle.desk_core.specs.Runs.{Outside, AnswersCalls}
-use Rattle.desk_core.proofs.Submitted.{narrower_sound}
+use Rattle.desk_core.proofs.Staying.{narrower_sound}
 use Rattle.http_front.specs.declared.replies.Replies as sinks
 use Rattle.bill_book.specs.declared.keeper.BillKeeper as keepers
 use Rattle.office_commands.specs.Billing.{Billing, BillsMonth}
@@ -38,12 +38,11 @@ module _ {D C W : Type 0} (d : disks.Ghosts D) (k : clocks.Ghosts C) (w : sinks.
 
   pub calls_sound : (limit : ℕ) (old new : Outside D C) (calls : List Call) → IsSound (d.state old.disk) → AnswersCalls d k limit old new calls → StaysSound old.disk new.disk
   calls_sound limit old new calls sound a =
-      let kept = a.disk tells in
-      joined IsSound kept.before kept.since (λ s narrow. narrower_sound (d.state old.disk) s sound narrow) (λ s has image is. let front = has image is in (front.0, front.2))
+      (a.sound tells sound).disk.sound
 
   refused_sound : (old new : Surroundings D C W) (status : ℕ) → IsSound (d.state old.disk) → FailsToOpen d k w old new status → StaysSound old.disk new.disk
   refused_sound old new status sound r =
-      weakened IsSound (r.any_moment tells) (λ s narrow. narrower_sound (d.state old.disk) s sound narrow)
+      weakened IsSound (r.refused.any_moment tells) (λ s narrow. narrower_sound (d.state old.disk) s sound narrow)
 
   pub reported_sound : (month : ℕ) (as_text : Bool) (first : ℕ) (old new : Surroundings D C W) (status : ℕ) → IsSound (d.state old.disk) → TellsMonth d w month as_text first old new status
       → StaysSound old.disk new.disk
@@ -63,7 +62,8 @@ module _ {D C W : Type 0} (d : disks.Ghosts D) (k : clocks.Ghosts C) (w : sinks.
   pub explained_sound : (old new : Surroundings D C W) (status : ℕ) → IsSound (d.state old.disk) → Explains d k w old new status → StaysSound old.disk new.disk
   explained_sound old new status sound (inl told) =
       weakened IsSound (told.any_moment tells) (λ s narrow. narrower_sound (d.state old.disk) s sound narrow)
-  explained_sound old new status sound (inr refused) = refused_sound old new status sound refused
+  explained_sound old new status sound (inr failed) =
+      weakened IsSound (failed.refused.any_moment tells) (λ s narrow. narrower_sound (d.state old.disk) s sound narrow)
 
   -- also where nothing is touched
   pub starts_sound : (left_alone : Type 0) (answers : ℕ → Surroundings D C W → Surroundings D C W → ℕ → Type 0)

@@ -1,8 +1,10 @@
 -- How workers ended.
-use Rattle.std.proofs.Common.{◌≡◌, ℕ, Bool, true, false, [], refl, arith}
+use Rattle.std.proofs.Common.{◌≡◌, ℕ, Bool, true, false, [], Result, Ok, Err, refl, arith}
 use Rattle.serving.specs.declared.worker.WorkerEnd.{WorkerEnd}
 use Rattle.serving.specs.declared.worker.WorkerEnd.TheVariants as workers
-use Rattle.office_program.specs.Workers.{workers_exit, workers_note}
+use Rattle.slots.specs.declared.fault.SaveFault.{SaveFault}
+use Rattle.slots.specs.declared.fault.SaveFault.TheVariants as saves
+use Rattle.office_program.specs.Workers.{workers_after, workers_exit, workers_note}
 
 -- nothing is noted where all was done
 pub zero_unnoted_workers : (end : WorkerEnd) (stale : Bool) (status : ℕ) → status ≡ workers_exit end stale → status ≡ 0 → workers_note end stale ≡ []
@@ -18,3 +20,30 @@ pub port_seven : (end : WorkerEnd) (stale : Bool) (status : ℕ) → status ≡ 
 port_seven workers.PortFault stale status is port = is
 port_seven workers.NoMemory stale status is port = absurd cc
 port_seven workers.Done stale status is port = absurd cc
+
+-- and closing the office changes nothing of it
+port_stays : (end : WorkerEnd) (saved : Result (Unit {0}) SaveFault) → end ≡ workers.PortFault → workers_after end saved ≡ workers.PortFault
+port_stays workers.PortFault saved port = refl
+port_stays workers.NoMemory saved port = absurd cc
+port_stays workers.Done saved port = absurd cc
+
+pub port_after : (end : WorkerEnd) (saved : Result (Unit {0}) SaveFault) (failed : Bool) (status : ℕ) → status ≡ workers_exit (workers_after end saved) failed → end ≡ workers.PortFault → status ≡ 7
+port_after end saved failed status is port = port_seven (workers_after end saved) failed status is (port_stays end saved port)
+
+pub seven_port : (end : WorkerEnd) (saved : Result (Unit {0}) SaveFault) (failed : Bool) (status : ℕ) → status ≡ workers_exit (workers_after end saved) failed → status ≡ 7 → end ≡ workers.PortFault
+seven_port workers.PortFault saved failed status is seven = refl
+seven_port workers.NoMemory saved true status is seven = absurd (omega (arith, is, seven))
+seven_port workers.NoMemory saved false status is seven = absurd (omega (arith, is, seven))
+seven_port workers.Done (Ok x) true status is seven = absurd (omega (arith, is, seven))
+seven_port workers.Done (Ok x) false status is seven = absurd (omega (arith, is, seven))
+seven_port workers.Done (Err saves.StoreFault) true status is seven = absurd (omega (arith, is, seven))
+seven_port workers.Done (Err saves.StoreFault) false status is seven = absurd (omega (arith, is, seven))
+seven_port workers.Done (Err saves.NoMemory) true status is seven = absurd (omega (arith, is, seven))
+seven_port workers.Done (Err saves.NoMemory) false status is seven = absurd (omega (arith, is, seven))
+
+-- a store that failed is told only so
+pub two_failed : (end : WorkerEnd) (failed : Bool) (status : ℕ) → status ≡ workers_exit end failed → status ≡ 2 → failed ≡ true
+two_failed end true status is two = refl
+two_failed workers.PortFault false status is two = absurd (omega (arith, is, two))
+two_failed workers.NoMemory false status is two = absurd (omega (arith, is, two))
+two_failed workers.Done false status is two = absurd (omega (arith, is, two))

@@ -1,23 +1,30 @@
 -- What a command of the program does that serves connections.
-use Rattle.std.specs.Prelude.{◌≡◌, ◌⊎◌, ℕ, ◌*◌, Bool, true, false, List, [], codes}
+use Rattle.std.specs.Prelude.{◌≡◌, ◌⊎◌, ℕ, ◌*◌, Bool, true, false, List, [], Result, Err, codes}
 use Rattle.disk_core.specs.declared.disk.Disk as disks
 use Rattle.meter_journal.specs.declared.fault.OpenFault.{OpenFault}
 use Rattle.desk_core.specs.declared.clock.Clock as clocks
 use Rattle.desk_core.specs.Runs.{AnswersCalls, stale_by}
+use Rattle.slots.specs.declared.fault.SaveFault.{SaveFault}
+use Rattle.slots.specs.declared.fault.SaveFault.TheVariants as saves
 use Rattle.http_front.specs.declared.replies.Replies as sinks
 use Rattle.serving.specs.declared.port.Port as ports
 use Rattle.serving.specs.declared.worker.WorkerEnd.{WorkerEnd}
 use Rattle.serving.specs.declared.worker.WorkerEnd.TheVariants as workers
 use Rattle.serving.specs.Serving.{Log, log_calls, AreOfWorkers}
 use Rattle.serving.specs.Works.{Balances, RoseBy}
-use Rattle.office_commands.specs.Lines.{fault_exit, line}
+use Rattle.office_commands.specs.Lines.{fault_exit, line, store_after}
 use Rattle.office_commands.specs.Running.{journal_limit, Surroundings, under, IsSilent, IsNoted, Starts}
 
 -- ---- statuses and lines (own)
 
--- of workers that ended so, with a desk that is stale then or not; where two hold, the first of 7, 2 and 6 (own)
+-- how workers ended, once the office was closed: memory ran out where there was none for the checkpoint (own)
+abbrev pub workers_after : WorkerEnd → Result (Unit {0}) SaveFault → WorkerEnd
+workers_after workers.Done (Err saves.NoMemory) = workers.NoMemory
+workers_after end saved = end
+
+-- of workers that ended so, with a store that failed or not; where two hold, the first of 7, 2 and 6 (own)
 abbrev pub workers_exit : WorkerEnd → Bool → ℕ
-workers_exit workers.PortFault stale = 7
+workers_exit workers.PortFault failed = 7
 workers_exit workers.NoMemory true = 2
 workers_exit workers.NoMemory false = 6
 workers_exit workers.Done true = 2
@@ -25,15 +32,15 @@ workers_exit workers.Done false = 0
 
 -- the status of workers, however they ended
 abbrev pub IsWorkersExit : ℕ → Type 0
-IsWorkersExit status = (end : WorkerEnd) × (stale : Bool) × (status ≡ workers_exit end stale)
+IsWorkersExit status = (end : WorkerEnd) × (failed : Bool) × (status ≡ workers_exit end failed)
 
 -- the status of a command that opens the office for workers, or cannot open it
 abbrev pub IsServeExit : ℕ → Type 0
 IsServeExit status = IsWorkersExit status ⊎ ((fault : OpenFault) × (status ≡ fault_exit fault))
 
--- of the end of workers, with a desk that is stale then or not; nothing where all was done
+-- of the end of workers, with a store that failed or not; nothing where all was done
 unfoldable pub workers_note : WorkerEnd → Bool → List ℕ
-workers_note workers.PortFault stale = line (codes "port: failed")
+workers_note workers.PortFault failed = line (codes "port: failed")
 workers_note workers.NoMemory true = line (codes "store: failed")
 workers_note workers.NoMemory false = line (codes "memory: refused")
 workers_note workers.Done true = line (codes "store: failed")
@@ -50,8 +57,11 @@ module _ {D C W : Type 0} (d : disks.Ghosts D) (k : clocks.Ghosts C) (w : sinks.
     pub end : WorkerEnd
     pub connections : connected end log
     pub silent : IsSilent w old.out new.out
-    pub status_is : status ≡ workers_exit end (stale_by false (log_calls log))
-    pub note : IsNoted w old.out new.out (workers_note end (stale_by false (log_calls log)))
+    -- by the end of the workers, and by what closing the office gave
+    pub status_is : status ≡ workers_exit (workers_after end answers.calls_are.saved)
+        (store_after (stale_by false (log_calls log)) answers.calls_are.saved)
+    pub note : IsNoted w old.out new.out (workers_note (workers_after end answers.calls_are.saved)
+        (store_after (stale_by false (log_calls log)) answers.calls_are.saved))
 
   -- what `serve` does with connections of a port, or leaves it alone
   abbrev pub ServesPort : Type 0 → (WorkerEnd → Log → Type 0) → Surroundings D C W → Surroundings D C W → ℕ → Type 0

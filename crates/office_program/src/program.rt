@@ -181,10 +181,10 @@ where
         (K.faults keeper.new))
         → (result.status ≡ 8 → ⊥) → IsDone (asks words.now) result.status }
 
-    // A closed month is billed where nothing that a billing works on fails and the clock is not at its end, and the
-    // keeper has no bills of it, or these.
+    // On a sound disk a closed month is billed where nothing that a billing works on fails, the clock is not at its
+    // end, and the keeper has no bills of it, or these.
     ensures billable { (month : ℕ) (history : List Entry) → asks words.now ≡ Some (bill_line month)
-        → IsTrue D.honest → HasAcceptedHistory history (D.state disk).journal.seen
+        → IsTrue D.honest → IsSound (D.state disk) → HasAcceptedHistory history (D.state disk).journal.seen
         → CanBill K.BillKeeper history (billing month keeper.old keeper.new)
         → NoBillingFailed (faults (D.fault_count disk) (S.faults input.old) (W.faults out.old) (P.faults port.old)
         (K.faults keeper.old))
@@ -192,11 +192,12 @@ where
         (K.faults keeper.new))
         → (result.status ≡ 8 → ⊥) → (result.status ≡ 0) ⊎ (result.status ≡ 6) }
 
-    // What can be forecast is, where nothing that a forecast works on fails and the clock is not at its end: the input
-    // tells its bytes, which are a configuration, and the office takes it as of the number that the clock told.
+    // On a sound disk what can be forecast is, where nothing that a forecast works on fails and the clock is not at its
+    // end: the input tells its bytes, which are a configuration, and the office takes it as of the number that the clock
+    // told.
     ensures forecastable { (bucket : List ℕ) (day : ℕ) (history : List Entry) (bytes : List ℕ)
         → asks words.now ≡ Some (forecast_line bucket day)
-        → IsTrue D.honest → HasAcceptedHistory history (D.state disk).journal.seen
+        → IsTrue D.honest → IsSound (D.state disk) → HasAcceptedHistory history (D.state disk).journal.seen
         → S.left input.old ≡ Some bytes → CanForecast history (asking bucket day) bytes (C.last result.clock)
         → NoForecastingFailed (faults (D.fault_count disk) (S.faults input.old) (W.faults out.old) (P.faults port.old)
         (K.faults keeper.old))

@@ -2,39 +2,59 @@
 ghost use Rattle.std.specs.Prelude.{◌≡◌, ◌≤◌, ◌⊎◌, ◌<◌, List, false, IsTrue};
 ghost use Rattle.office_base.specs.Faults.{Rose};
 ghost use Rattle.office_types.specs.declared.command.Entry.{Entry};
-ghost use Rattle.desk_core.specs.Histories.{HasAcceptedHistory};
+ghost use Rattle.desk_core.specs.Histories.{IsSound};
 ghost use Rattle.desk_core.specs.Opening.{Opens};
-ghost use Rattle.office_program.specs.Workers.{workers_exit, workers_note, IsWorkersExit, IsServeExit};
+ghost use Rattle.office_commands.specs.Lines.{store_after};
+ghost use Rattle.office_program.specs.Workers.{workers_after, workers_exit, workers_note, IsWorkersExit, IsServeExit};
 ghost use Rattle.office_commands.specs.Running.{journal_limit, around, IsNoted, IsSilent, NotesNothing};
 ghost use Rattle.office_commands.specs.Running.{FailsToOpen};
 ghost use Rattle.office_program.specs.Workers.{AnswersWorkers, Connects, IsBalanced, ServesPort};
 
 use crate::lines::{serve_exit, served_line};
-use desk_core::{Clock, Desk};
+use desk_core::{Clock, Desk, SaveFault};
 use disk_core::Disk;
 use http_front::Replies;
-use office_commands::{End, JOURNAL_LIMIT, end_at_clock, has_begun, note_line, refuse};
-use serving::{Closed, Gate, Port, serve_office};
+use office_commands::{
+    End, JOURNAL_LIMIT, end_at_clock, has_begun, note_line, refuse, store_failed,
+};
+use serving::{Closed, Gate, Port, WorkerEnd, serve_office};
 use std::alloc::Global;
 use std::sync::Wait;
 use std::thread::Threads;
+
+// How workers ended, once their office was closed.
+fn ended(end: WorkerEnd, saved: &Result<(), SaveFault>) -> WorkerEnd
+    ensures { result ≡ workers_after end saved.now }
+{
+    match end {
+        WorkerEnd::Done => match saved {
+            Err(SaveFault::NoMemory) => WorkerEnd::NoMemory,
+            _ => WorkerEnd::Done,
+        },
+        other => other,
+    }
+}
 
 // Notes how workers ended.
 fn close<W: Replies, D: Disk + Drop, C: Clock + Drop>(
     out: &mut W,
     closed: Closed<D, C>,
 ) -> End<D, C>
-    ensures status { result.status ≡ workers_exit closed.end closed.stale }
+    ensures status { result.status
+        ≡ workers_exit (workers_after closed.end closed.saved) (store_after closed.stale closed.saved) }
     ensures disk { result.disk ≡ closed.disk }
     ensures clock { result.clock ≡ closed.clock }
     ensures silent { IsSilent W.Replies out.old out.new }
-    ensures noted { IsNoted W.Replies out.old out.new (workers_note closed.end closed.stale) }
+    ensures noted { IsNoted W.Replies out.old out.new
+        (workers_note (workers_after closed.end closed.saved) (store_after closed.stale closed.saved)) }
     ensures unnoted { result.status ≡ 0 → NotesNothing W.Replies out.old out.new }
     ensures later { W.faults out.old ≤ W.faults out.new }
 {
-    note_line(out, served_line(closed.end, closed.stale));
+    let failed = store_failed(closed.stale, &closed.saved);
+    let outcome = ended(closed.end, &closed.saved);
+    note_line(out, served_line(outcome, failed));
     End {
-        status: serve_exit(closed.end, closed.stale),
+        status: serve_exit(outcome, failed),
         disk: closed.disk,
         clock: closed.clock,
     }
@@ -109,8 +129,7 @@ where
         (around disk clock out.old) (around result.disk result.clock out.new) result.status
         ⊎ (FailsToOpen D.Disk C.Clock W.Replies (around disk clock out.old) (around result.disk result.clock out.new)
         result.status × (port.new ≡ port.old)) }
-    ensures sound { IsTrue D.honest → (history : List Entry)
-        → HasAcceptedHistory history (D.state disk).journal.seen → result.status ≡ 5 → ⊥ }
+    ensures sound { IsTrue D.honest → IsSound (D.state disk) → result.status ≡ 5 → ⊥ }
     ensures unopened { result.status ≡ 5 → port.new ≡ port.old }
     ensures later { (W.faults out.old ≤ W.faults out.new) × (D.fault_count disk ≤ D.fault_count result.disk) }
     ensures statuses { IsServeExit result.status }
@@ -163,8 +182,7 @@ where
     ensures serves { ServesPort D.Disk C.Clock W.Replies (port.new ≡ port.old)
         (Connects P.Port address.now workers connections port.old port.new)
         (around disk clock out.old) (around result.disk result.clock out.new) result.status }
-    ensures sound { IsTrue D.honest → (history : List Entry)
-        → HasAcceptedHistory history (D.state disk).journal.seen → result.status ≡ 5 → ⊥ }
+    ensures sound { IsTrue D.honest → IsSound (D.state disk) → result.status ≡ 5 → ⊥ }
     ensures unopened { (result.status ≡ 5) ⊎ (result.status ≡ 8) → port.new ≡ port.old }
     ensures later { (W.faults out.old ≤ W.faults out.new) × (D.fault_count disk ≤ D.fault_count result.disk) }
     ensures statuses { (result.status ≡ 8) ⊎ IsServeExit result.status }

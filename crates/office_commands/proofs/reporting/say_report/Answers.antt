@@ -1,4 +1,4 @@
-use Rattle.std.proofs.Common.{◌≡◌, ◌∙◌, [], sym, subst, List}
+use Rattle.std.proofs.Common.{◌≡◌, ◌∙◌, [], inr, sym, subst, List}
 use Rattle.disk_core.specs.Fronts.{Narrower}
 use Rattle.disk_core.specs.Moments.{KeepsTo}
 use Rattle.office_types.specs.declared.command.Entry.{Entry}
@@ -9,22 +9,28 @@ use Rattle.office_commands.proofs.reporting.say_report.Goals as goal
 
 pub say_reply-status-requires-clause-of_report : goal.say_reply-status-requires-clause-of_report
 say_reply-status-requires-clause-of_report g c =
-    let d = g.D.Disk in
-    let opens = c.requires.opens.2 in
-    let read = c.look-reply.ensures.reads (opened_with d opens.history c.args.desk) [] opens.stands in
-    report_reply c.args.told c.args.month read.0 c.look-reply.result read.2
+    let reads = c.requires.opens.2.reads in
+    let stands = reads.stands reads.shown.0 reads.shown.1 in
+    report_reply c.args.told c.args.month stands.plain c.look-reply.result (c.look-reply.ensures.answered stands.plain stands.stands)
+
+pub returns-clause-disk : goal.returns-clause-disk
+returns-clause-disk g c = (c.finish-disk.ensures.closes.untouched (inr (sym c.requires.opens.2.opened_at))).0
 
 pub returns-clause-tells : goal.returns-clause-tells
 returns-clause-tells g c disk clock opens =
     let d = g.D.Disk in
-    let read = c.look-reply.ensures.reads (opened_with d opens.history c.args.desk) [] opens.stands in
+    let same = (c.finish-disk.ensures.closes.untouched (inr (sym opens.opened_at))).0 in
     record {
-      history = read.0;
-      read = λ tells. subst (λ (h : List Entry). HasAcceptedHistory h (d.state disk).journal.seen) (sym read.1) (opens.read tells);
-      any_moment = λ tells. subst (λ (x : g.row.D.Denot). KeepsTo d disk x (Narrower (d.state disk))) (sym c.finish-disk.ensures.disk) (opens.any_moment tells);
-      quiet = subst (λ (x : g.row.D.Denot). d.fault_count x ≡ d.fault_count disk) (sym c.finish-disk.ensures.disk) opens.quiet;
+      desk = c.args.desk;
+      opens = opens;
+      any_moment = λ tells. subst (λ (x : g.row.D.Denot). KeepsTo d disk x (Narrower (d.state disk))) (sym same) (opens.reads.any_moment tells);
+      quiet = subst (λ (x : g.row.D.Denot). d.fault_count x ≡ d.fault_count disk) (sym same) opens.reads.quiet;
       clock = c.finish-disk.ensures.clock ∙ opens.clock_is;
       reply = c.look-reply.result;
-      is_read = read.2;
+      answered = c.look-reply.ensures.answered;
+      sound = λ tells sound.
+          let known = opens.sound tells sound in
+          let read = c.look-reply.ensures.reads (opened_with d known.history c.args.desk) [] known.stands in
+          (read.0, subst (λ (h : List Entry). HasAcceptedHistory h (d.state disk).journal.seen) (sym read.1) known.read, read.2);
       told = c.say_reply-status.ensures.tells;
     }

@@ -47,9 +47,8 @@ pub returns-in-Ok-Run-clause-sound : goal.returns-in-Ok-Run-clause-sound
 returns-in-Ok-Run-clause-sound g c tells sound =
     let d = g.D.Disk in
     let k = g.C.Clock in
-    let w = g.W.Replies in
-    let has = c.sound_now.ensures.reads tells sound in (
-      c.run.ensures.sound tells has.0 has.1,
+    let w = g.W.Replies in (
+      c.run.ensures.sound tells sound,
       starts_sound d k w tells (c.run.new.input ≡ c.args.input.now)
           (λ first. AnswersStream d k w (stream_ends (g.S.Source.left c.args.input.now) (g.S.Source.left c.run.new.input)))
           (λ first old new status sound a. calls_sound d k w tells journal_limit (under old) (under new) (calls_of a.talk.spoken.exchanges) sound a.answers)
@@ -62,7 +61,7 @@ returns-in-Ok-Run-clause-complete g c tells some good none eight =
     let e = c.run.ensures in
     inl (run_done c.run.result.status (λ two. none.0 (e.disk_fault two))
     (λ five. ⊎_elim
-    (λ sound. let has = c.sound_now.ensures.reads tells sound in e.sound tells has.0 has.1 five)
+    (λ sound. e.sound tells sound five)
     (λ other. init_not_run _ other.0 (c.in-Ok-Run.ensures.read ∙ ap (λ (l : CommandLine). Some (line_of l)) c.in-Ok-Run.field-0-is)) good)
     (λ three. none.1 (e.read_fault three)) (λ four. none.2 (e.write_fault four)) (⊎_elim (λ is. absurd (eight is)) (λ is. is) e.statuses))
 
@@ -70,9 +69,8 @@ pub returns-in-Ok-Serve-clause-sound : goal.returns-in-Ok-Serve-clause-sound
 returns-in-Ok-Serve-clause-sound g c tells sound =
     let d = g.D.Disk in
     let k = g.C.Clock in
-    let w = g.W.Replies in
-    let has = c.sound_now.ensures.reads tells sound in (
-      c.serve.ensures.sound tells has.0 has.1,
+    let w = g.W.Replies in (
+      c.serve.ensures.sound tells sound,
       starts_sound d k w tells (c.serve.new.port ≡ c.args.port.now) (λ first. AnswersWorkers d k w
           (Connects g.P.Port c.as_str.result.now c.in-Ok-Serve.workers c.in-Ok-Serve.connections c.args.port.now c.serve.new.port))
           (λ first old new status sound a. calls_sound d k w tells journal_limit (under old) (under new) (log_calls a.log) sound a.answers)
@@ -85,7 +83,7 @@ returns-in-Ok-Serve-clause-complete g c tells some good none eight =
     let e = c.serve.ensures in
     inl (serve_done c.serve.result.status (λ two. none.0 (e.disk_fault two))
     (λ five. ⊎_elim
-    (λ sound. let has = c.sound_now.ensures.reads tells sound in e.sound tells has.0 has.1 five)
+    (λ sound. e.sound tells sound five)
     (λ other. init_not_serve _ _ _ _ other.0 (c.in-Ok-Serve.ensures.read ∙ ap (λ (l : CommandLine). Some (line_of l)) c.in-Ok-Serve.field-0-is)) good)
     (λ seven. none.3 (e.port_fault seven)) (⊎_elim (λ is. absurd (eight is)) (λ is. is) e.statuses))
 
@@ -95,9 +93,8 @@ returns-in-Ok-Report-clause-sound g c tells sound =
     let k = g.C.Clock in
     let w = g.W.Replies in
     let month = c.in-Ok-Report.asked.month in
-    let as_text = c.in-Ok-Report.asked.as_text in
-    let has = c.sound_now.ensures.reads tells sound in (
-      c.report.ensures.sound tells has.0 has.1,
+    let as_text = c.in-Ok-Report.asked.as_text in (
+      c.report.ensures.sound tells sound,
       starts_sound d k w tells (Unit {0}) (TellsMonth d w month as_text) (reported_sound d k w tells month as_text)
           (around c.args.disk c.args.clock c.args.out.now)
           (around c.report.result.disk c.report.result.clock c.report.new.out) c.report.result.status sound
@@ -109,7 +106,7 @@ returns-in-Ok-Report-clause-complete g c tells some good none eight =
     let e = c.report.ensures in
     inl (report_done c.report.result.status (λ two. none.0 (e.disk_fault two))
     (λ five. ⊎_elim
-    (λ sound. let has = c.sound_now.ensures.reads tells sound in e.sound tells has.0 has.1 five)
+    (λ sound. e.sound tells sound five)
     (λ other. init_not_report _ _ _ other.0 (c.in-Ok-Report.ensures.read ∙ ap (λ (l : CommandLine). Some (line_of l)) c.in-Ok-Report.field-0-is)) good)
     e.only.0 (λ four. none.2 (e.write_fault four)) (⊎_elim (λ is. absurd (eight is)) (λ is. is) e.statuses))
 
@@ -357,9 +354,8 @@ returns-in-Ok-Bill-clause-sound g c tells sound =
     let k = g.C.Clock in
     let w = g.W.Replies in
     let b = g.K.BillKeeper in
-    let one = billing c.in-Ok-Bill.asked.month c.args.keeper.now c.bill.new.keeper in
-    let has = c.sound_now.ensures.reads tells sound in (
-      c.bill.ensures.sound tells has.0 has.1,
+    let one = billing c.in-Ok-Bill.asked.month c.args.keeper.now c.bill.new.keeper in (
+      c.bill.ensures.sound tells sound,
       starts_sound d k w tells (LeavesKeeper one) (BillsMonth d w b one) (billed_sound d k w tells b one)
           (around c.args.disk c.args.clock c.args.out.now)
           (around c.bill.result.disk c.bill.result.clock c.bill.new.out) c.bill.result.status sound
@@ -373,7 +369,7 @@ returns-in-Ok-Bill-clause-complete g c tells some good none eight =
     ⊎_elim (λ done. inl done) (λ other. inr (inl ((c.in-Ok-Bill.asked.month, line), other)))
     (bill_done c.bill.result.status (λ two. none.0 (e.disk_fault two))
     (λ five. ⊎_elim
-    (λ sound. let has = c.sound_now.ensures.reads tells sound in e.sound tells has.0 has.1 five)
+    (λ sound. e.sound tells sound five)
     (λ other. init_not_bill _ _ other.0 line) good)
     e.only.0 (λ four. none.2 (e.write_fault four)) (⊎_elim (λ is. absurd (eight is)) (λ is. is) e.statuses))
 
@@ -409,19 +405,19 @@ returns-in-Ok-Bill-clause-causes g c =
     }
 
 pub returns-in-Ok-Bill-clause-billable : goal.returns-in-Ok-Bill-clause-billable
-returns-in-Ok-Bill-clause-billable g c month history is tells has can none eight =
+returns-in-Ok-Bill-clause-billable g c month history is tells sound has can none eight =
     let e = c.bill.ensures in
     let line = c.in-Ok-Bill.ensures.read ∙ ap (λ (l : CommandLine). Some (line_of l)) c.in-Ok-Bill.field-0-is in
     let same : month ≡ c.in-Ok-Bill.asked.month = same_bill _ month c.in-Ok-Bill.asked.month is line in
     let one = billing c.in-Ok-Bill.asked.month c.args.keeper.now c.bill.new.keeper in
     let mine = subst (λ (m : ℕ). CanBill g.K.BillKeeper history (billing m c.args.keeper.now c.bill.new.keeper)) same can in
-    billable c.bill.result.status (λ two. none.0 (e.disk_fault two)) (e.sound tells history has)
+    billable c.bill.result.status (λ two. none.0 (e.disk_fault two)) (e.sound tells sound)
     g.D.Disk g.C.Clock g.W.Replies g.K.BillKeeper one tells history mine
     (λ four. none.1 (e.write_fault four)) (λ eleven. none.2 (e.keeper_fault eleven)) eight
-    (around c.args.disk c.args.clock c.args.out.now) (around c.bill.result.disk c.bill.result.clock c.bill.new.out) has e.bills
+    (around c.args.disk c.args.clock c.args.out.now) (around c.bill.result.disk c.bill.result.clock c.bill.new.out) sound has e.bills
 
 pub returns-in-Err-clause-billable : goal.returns-in-Err-clause-billable
-returns-in-Err-clause-billable g c month history is tells has can none eight =
+returns-in-Err-clause-billable g c month history is tells sound has can none eight =
     inr (refusal_six c.in-Err.fault _ _ c.refuse_line-status.result (λ refused. c.in-Err.ensures.refused (ap Err refused)) (λ lacks. (c.refuse_line-status.ensures.memory lacks).0) is)
 
 -- ---- forecasts
@@ -439,8 +435,8 @@ returns-in-Ok-Forecast-clause-sound g c tells sound =
     let w = g.W.Replies in
     let asked = asking c.in-Ok-Forecast.asked.bucket c.in-Ok-Forecast.asked.day in
     let input = stream_ends (g.S.Source.left c.args.input.now) (g.S.Source.left c.foretell.new.input) in
-    let has = c.sound_now.ensures.reads tells sound in (
-      c.foretell.ensures.sound tells has.0 has.1,
+    (
+      c.foretell.ensures.sound tells sound,
       starts_sound d k w tells (c.foretell.new.input ≡ c.args.input.now) (ForecastsBucket d w asked input) (foretold_sound d k w tells asked input)
           (around c.args.disk c.args.clock c.args.out.now)
           (around c.foretell.result.disk c.foretell.result.clock c.foretell.new.out) c.foretell.result.status sound
@@ -454,7 +450,7 @@ returns-in-Ok-Forecast-clause-complete g c tells some good none eight =
     ⊎_elim (λ done. inl done) (λ fourteen. inr (inr ((c.in-Ok-Forecast.asked.bucket, c.in-Ok-Forecast.asked.day, line), fourteen)))
     (forecast_done c.foretell.result.status (λ two. none.0 (e.disk_fault two))
     (λ five. ⊎_elim
-    (λ sound. let has = c.sound_now.ensures.reads tells sound in e.sound tells has.0 has.1 five)
+    (λ sound. e.sound tells sound five)
     (λ other. init_not_forecast _ _ _ other.0 line) good)
     (λ three. none.1 (e.read_fault three)) (λ four. none.2 (e.write_fault four)) (⊎_elim (λ is. absurd (eight is)) (λ is. is) e.statuses))
 
@@ -491,18 +487,18 @@ returns-in-Ok-Forecast-clause-causes g c =
     }
 
 pub returns-in-Ok-Forecast-clause-forecastable : goal.returns-in-Ok-Forecast-clause-forecastable
-returns-in-Ok-Forecast-clause-forecastable g c bucket day history bytes is tells has left can none eight =
+returns-in-Ok-Forecast-clause-forecastable g c bucket day history bytes is tells sound has left can none eight =
     let e = c.foretell.ensures in
     let line = c.in-Ok-Forecast.ensures.read ∙ ap (λ (l : CommandLine). Some (line_of l)) c.in-Ok-Forecast.field-0-is in
     let asked = asking c.in-Ok-Forecast.asked.bucket c.in-Ok-Forecast.asked.day in
     let input = stream_ends (g.S.Source.left c.args.input.now) (g.S.Source.left c.foretell.new.input) in
     let mine = subst (λ (a : List ℕ × ℕ). CanForecast history (asking a.0 a.1) bytes (g.C.Clock.last c.foretell.result.clock))
     (same_forecast _ bucket c.in-Ok-Forecast.asked.bucket day c.in-Ok-Forecast.asked.day is line) can in
-    forecastable c.foretell.result.status (λ two. none.0 (e.disk_fault two)) (e.sound tells history has)
+    forecastable c.foretell.result.status (λ two. none.0 (e.disk_fault two)) (e.sound tells sound)
     g.D.Disk g.C.Clock g.W.Replies tells (λ three. none.1 (e.read_fault three)) (λ four. none.2 (e.write_fault four)) eight
     history asked bytes input left
-    (around c.args.disk c.args.clock c.args.out.now) (around c.foretell.result.disk c.foretell.result.clock c.foretell.new.out) mine has e.forecasts
+    (around c.args.disk c.args.clock c.args.out.now) (around c.foretell.result.disk c.foretell.result.clock c.foretell.new.out) mine sound has e.forecasts
 
 pub returns-in-Err-clause-forecastable : goal.returns-in-Err-clause-forecastable
-returns-in-Err-clause-forecastable g c bucket day history bytes is tells has left can none eight =
+returns-in-Err-clause-forecastable g c bucket day history bytes is tells sound has left can none eight =
     inr (refusal_six c.in-Err.fault _ _ c.refuse_line-status.result (λ refused. c.in-Err.ensures.refused (ap Err refused)) (λ lacks. (c.refuse_line-status.ensures.memory lacks).0) is)

@@ -1,12 +1,11 @@
-use Rattle.disk_core.specs.declared.disk.FileNo.TheVariants.{Journal}
+use Rattle.disk_core.proofs.Laws.{laws_of}
 use Rattle.disk_core.proofs.Time.{started}
 use Rattle.desk_core.specs.Histories.{IsSound}
+use Rattle.desk_core.proofs.Rereading.{sound_reads}
 use Rattle.office_program.proofs.program.sound_now.Goals as goal
 
 pub returns-clause-reads : goal.returns-clause-reads
-returns-clause-reads g c tells sound =
-    let seen = (g.D.Disk.state c.args.disk.now).journal.seen in
-    sound seen (g.met.D.Disk.reads_image tells c.args.disk.now Journal)
+returns-clause-reads g c tells sound = sound_reads (laws_of g.met.D.Disk) c.args.disk.now tells sound
 
 pub returns-clause-still : goal.returns-clause-still
 returns-clause-still g c tells sound =
