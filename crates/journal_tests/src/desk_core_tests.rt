@@ -333,12 +333,12 @@ fn a_journal_is_opened_where_the_office_accepts_it(rt: HostRuntime) -> Result<()
 #[test]
 fn a_fault_of_the_store_is_told(rt: HostRuntime) -> Result<(), Fail> {
     let alloc = rt.alloc();
-    // Calls 2 to 5 open the journal: a sync, the length, the head, the first gate. Calls 6 to 11 add the entry: three
-    // writes, a sync, the gate, a sync.
-    for call in 2..12 {
+    // Calls 2 to 7 open the office: a sync, the lengths of the two slots, the length of the journal, its head, the first
+    // gate. Calls 8 to 13 add the entry: three writes, a sync, the gate, a sync.
+    for call in 2..14 {
         let disk = disk_with(alloc, EMPTY, &[call])?;
         let (fault, mut disk) = take_turns(&rt, alloc, disk, &[J0], 100, &[(MAKE, LOST, true)])?;
-        let want = if call < 6 {
+        let want = if call < 8 {
             Some(OpenFault::StoreFault)
         } else {
             None
@@ -375,12 +375,12 @@ const EMPTY_SHOWN: Turn = (SHOW, Ok((Heard::Shown(0), 30)), false);
 
 const PUT: Wish = Wish::Put("logs", 1_000);
 
-// Call 9 syncs the frame of the first command, call 11 its gate, and call 12 the journal that is opened again.
+// Call 11 syncs the frame of the first command, call 13 its gate, and call 14 the journal that is opened again.
 const STALE: &[Row] = &[
-    (&[9], &[J0], &[ADDING, NEW, OLD]),
-    (&[11], &[J0], &[ADDING, OLD, OLD]),
-    (&[9, 12], &[J0], &[ADDING, OPENING, NEW]),
-    (&[11, 12], &[J0], &[ADDING, OPENING, OLD]),
+    (&[11], &[J0], &[ADDING, NEW, OLD]),
+    (&[13], &[J0], &[ADDING, OLD, OLD]),
+    (&[11, 14], &[J0], &[ADDING, OPENING, NEW]),
+    (&[13, 14], &[J0], &[ADDING, OPENING, OLD]),
 ];
 
 // An entry of a put ends 33 bytes behind the one before it.
@@ -412,9 +412,9 @@ const CLOCKS: &[Row] = &[
     ),
 ];
 
-// Call 12 would be the first one behind the entry of the bucket, and it fails.
+// Call 14 would be the first one behind the entry of the bucket, and it fails.
 const QUERIES: &[Row] = &[(
-    &[12],
+    &[14],
     &[J0],
     &[
         NEW,
