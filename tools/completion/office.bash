@@ -83,6 +83,7 @@ _office_tool() {
     -*,office-usage) choices='--server --bucket --buckets --journal --out --help' ;;
     -*,office-metrics) choices='--server --bucket --buckets --journal --log --backups --out --listen --help' ;;
     -*,office-backup) choices='--keep --other-disk --replaced --help' ;;
+    -*,office-journal-dump) choices='--check --slots --help' ;;
     *,office-journal-digest)
         case " ${COMP_WORDS[*]} " in
         *' verify '* | *' extend '* | *' mend '*) ;;
@@ -105,4 +106,4 @@ _office_tool() {
 
 complete -F _office office
 complete -F _office_tool office-act-all office-month-end office-lifecycle office-import-inventory office-bill office-usage \
-    office-usage-page office-metrics office-backup office-journal-digest office-follow office-compare office-apply
+    office-usage-page office-metrics office-backup office-journal-digest office-journal-dump office-follow office-compare office-apply

@@ -1,31 +1,28 @@
-"""Reads the entries of a journal by docs/FORMATS.md, for journal-dump."""
+"""Reads the entries of a journal by docs/FORMATS.md, and the fields of which they consist."""
 import datetime
 import json
 import re
 
-END_OF_TIME, LARGEST_SIZE = 4_102_444_800_000, 5_497_558_138_880
-CLASSES = ("STANDARD", "STANDARD_IA", "ONEZONE_IA", "GLACIER_IR", "GLACIER", "DEEP_ARCHIVE")
-EPOCH = datetime.datetime(1970, 1, 1)
+from office_tools.configurations import read_configuration
+from office_tools.ranges import CLASSES, END_OF_TIME, EPOCH, LARGEST_SIZE, Damaged
+
 FIRST_MONTH, MOST_TIERS = "1970-01", 8
 # A kind with this bit has a token before its fields. What is harmless to repeat takes none, and neither does a tariff.
 WITH_TOKEN, WITHOUT_TOKEN = 0x80, (0x03, 0x0D, 0x0E, 0x10)
 
 
-class Damaged(Exception):
-    """What is wrong at a gate."""
-
-
 class Fields:
-    """The bytes of an entry, taken from the front."""
+    """The bytes of an entry, or of what has the same fields, read from the front: `at` is the next byte."""
+    whole = "entry"
 
-    def __init__(self, entry):
-        self.rest = entry
+    def __init__(self, data, at=0):
+        self.data, self.at = data, at
 
     def take(self, count, what):
-        if len(self.rest) < count:
-            raise Damaged(f"the entry ends within its {what}")
-        taken, self.rest = self.rest[:count], self.rest[count:]
-        return taken
+        begin, self.at = self.at, self.at + count
+        if self.at > len(self.data):
+            raise Damaged(f"the {self.whole} ends within its {what}")
+        return self.data[begin:self.at]
 
     def number(self, count, what):
         return int.from_bytes(self.take(count, what), "big")
@@ -87,15 +84,10 @@ class Fields:
         return self.number(8, "version") or "null"
 
     def rules(self):
-        """A configuration, of which this reader knows no more than that it is compact JSON."""
+        """The object of a configuration, which is written as it is printed."""
         text = self.take(self.number(4, "configuration"), "configuration")
-        try:
-            found = json.loads(text)
-        except ValueError:
-            raise Damaged("the configuration is no JSON text") from None
-        if json.dumps(found, ensure_ascii=False, separators=(",", ":")).encode() != text:
-            raise Damaged("the configuration is not written as it is printed")
-        return found
+        read_configuration(text)
+        return json.loads(text)
 
     def token(self):
         token = self.take(self.number(1, "token"), "token")
@@ -179,7 +171,7 @@ def read_entry(entry: bytes, before: int) -> dict:
     found = {"kind": name, **token, **{field: reader(fields) for field, reader in readers}}
     if kind == 0x10 and is_plain(found):
         raise Damaged("the kind is 10, and 0e spells this tariff")
-    if fields.rest:
+    if fields.at < len(entry):
         raise Damaged("bytes follow the last field of the entry")
     if ms < before:
         raise Damaged("the moment is before that of the entry before it")

@@ -1,6 +1,8 @@
-"""Copies a journal while the program may work on it, checks the copy, and names it by the moment of copying."""
+"""Copies a journal and its checkpoints beside the program, checks the copies, and names them by the moment."""
 import argparse
+import contextlib
 import datetime
+import glob
 import os
 import re
 import shutil
@@ -8,9 +10,11 @@ import signal
 import sys
 
 from office_tools.asking import Stop, run, say, words_of
+from office_tools.checkpoints import NAMES, paths_beside, read_slots
 from office_tools.digests import about, copies, extended, first_wrong, read_blocks, write_blocks
 from office_tools.files import sync_folder
-from office_tools.journals import open_file
+from office_tools.journals import Journal, open_file
+from office_tools.slots import HEAD
 
 EPILOG = """\
 Copies JOURNAL (office-data/journal) to FOLDER/journal-YYYYMMDDTHHMMSSZ. The copy gets this name after it is
@@ -26,8 +30,14 @@ blocks. If an earlier block changed, it keeps no copy and removes none (exit cod
   the journal is another one     after a restore of an older copy, or in a new office: give --replaced once. It
                                  begins a new chain, and keeps the old one beside it
 
-To restore: stop the program, put a copy in the place of office-data/journal, remove check.0 and check.1 beside
-it (they are made anew), and start the program.
+The checkpoints beside the journal, check.0 and check.1, are copied first, as check.0-YYYYMMDDTHHMMSSZ and
+check.1-YYYYMMDDTHHMMSSZ. So no copied checkpoint is newer than its journal. One that is empty, closed or
+damaged is left out, since the program passes over it too. One of another journal, perhaps left beside an older
+copy, is refused (exit code 8): the program would begin with it.
+
+To restore: stop the program, put a copy in the place of office-data/journal, and remove check.0 and check.1
+beside it, or replace them by the copies with the same ending. Without them the program reads the whole journal.
+Then start the program.
 
   backup --keep 14 office-data/journal /backup/office
 
@@ -39,6 +49,7 @@ exit codes:
   5  the journal is not made, foreign or damaged; no copy is kept, and none is removed
   6  the front of the journal changed; no copy is kept, and none is removed
   7  FOLDER/journal.digest is damaged: move it away, and the next copy begins a new one
+  8  a checkpoint is of another journal; no copy is kept, and none is removed
 """
 
 
@@ -103,6 +114,67 @@ def blocks_of(given, part, digest, before):
         return extended(file, blocks)
 
 
+def note(text):
+    print(f"backup: {text}", file=sys.stderr)
+
+
+def copy_slots(journal, ending, made):
+    """Writes the checkpoints that decode to files with this ending, and adds their names to `made`. The program needs none of them."""
+    try:
+        slots = read_slots(journal)
+    except Stop as stop:
+        note(f"{stop.args[1]}; no checkpoint is copied")
+        return []
+    for it in slots:
+        if it.slot.state == "damaged":
+            note(f"{it.path}: damaged at {it.slot.fault[0]}: {it.slot.fault[1]}; not copied")
+    whole = [it for it in slots if it.slot.state == "whole"]
+    for it in whole:
+        part = os.path.join(os.path.dirname(ending), f"{it.name}{os.path.basename(ending)}")
+        made.append(part)
+        with open(part, "xb") as there:
+            there.write(it.data[:HEAD + it.slot.size])
+            there.flush()
+            os.fsync(there.fileno())
+    return whole
+
+
+def moment_before(file, blocks, position):
+    """Whether a gate of a journal is at this place, and the moment of the entry before it."""
+    before = [it for it in blocks if it.to <= position]
+    journal = Journal(file, (before[-1].to, 0, before[-1].ms) if before else None)
+    last = before[-1].ms if before else None
+    for entry in journal.entries():
+        if entry["offset"] >= position:
+            return entry["offset"] == position, last
+        last = entry["ms"]
+    return journal.gate == position, last
+
+
+def check_slots(whole, part, blocks):
+    """Refuses a checkpoint that is not of the copied journal."""
+    for it in whole:
+        with open_file(part) as file:
+            is_gate, last = moment_before(file, blocks, it.slot.position)
+        if not is_gate or last != it.slot.snapshot.last:
+            raise Stop(8, f"{it.path}: of another journal: {'its last moment is another one' if is_gate else 'no entry ends'} at its position "
+                       f"{it.slot.position}; no copy is kept. journal-dump --check --slots says more")
+
+
+def remove_copy(path):
+    """Removes a copy, its checkpoints first."""
+    for it in [*paths_beside(path), path]:
+        with contextlib.suppress(FileNotFoundError):
+            os.remove(it)
+
+
+def strays(folder):
+    """Checkpoints of copies that are not there: of a run that was stopped."""
+    for path in glob.glob(os.path.join(glob.escape(folder), "check.[01]-*Z")):
+        if not os.path.exists(os.path.join(folder, f"journal{os.path.basename(path)[len(NAMES[0]):]}")):
+            yield path
+
+
 def has_whole(path, blocks):
     with open_file(path) as file:
         return first_wrong(file, blocks) == len(blocks)
@@ -126,21 +198,30 @@ def main():
         signal.signal(it, lambda *_: sys.exit(4))
     now = f"{datetime.datetime.now(datetime.timezone.utc):%Y%m%dT%H%M%SZ}"
     new, digest = (os.path.join(given.folder, it) for it in (f"journal-{now}", "journal.digest"))
-    part, before = os.path.join(given.folder, f"journal.part.{os.getpid()}"), copies(given.folder)
+    part, before, made = os.path.join(given.folder, f"journal.part.{os.getpid()}"), copies(given.folder), []
     try:
+        whole = copy_slots(given.journal, os.path.join(given.folder, f".part.{os.getpid()}"), made)
         copy(given.journal, part)
         blocks = blocks_of(given, part, digest, before)
+        check_slots(whole, part, blocks)
         if given.replaced and os.path.exists(digest):
             os.rename(digest, f"{digest}-until-{now}")
         write_blocks(digest, blocks)
-        os.rename(part, new)
+        for it, there in zip(whole, list(made)):
+            made.append(os.path.join(given.folder, f"{it.name}-{now}"))
+            os.rename(there, made[-1])
+        os.rename(part, new)  # from here on the copy counts
+        made.clear()
         sync_folder(new)
     except OSError as fault:
         raise Stop(4, f"{new}: {fault.strerror}") from None
     finally:
-        if os.path.exists(part):
-            os.remove(part)
+        for it in [*made, part]:
+            if os.path.exists(it):
+                os.remove(it)
     for it in copies(given.folder)[:-given.keep] if given.keep else []:
+        remove_copy(it)
+    for it in strays(given.folder) if given.keep else []:
         os.remove(it)
     say(f"{new}\n")
 
