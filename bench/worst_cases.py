@@ -64,6 +64,11 @@ class Office:
                 file.write(one)
         return self.call("run", path)
 
+    def forget(self):
+        """Removes the checkpoints, so that the next opening replays the whole journal."""
+        for it in ("check.0", "check.1"):
+            pathlib.Path(self.folder, "office-data", it).unlink(missing_ok=True)
+
     def explain(self):
         return self.call("explain", os.devnull)
 
@@ -135,6 +140,7 @@ def opening(office):
     rules = b'{"Rules":[{"Status":"Enabled","Filter":{"Prefix":""},"Expiration":{"Date":"2024-01-01T00:00:00.000Z"}}]}'
     puts = [message(f"PUT /buckets/aaa/objects/k{i}", b'{"size":5}') for i in range(20_000)]
     office.run([message("PUT /buckets/aaa"), message("PUT /buckets/aaa/lifecycle", rules), *puts, *[message("POST /buckets/aaa/act")] * 20_000])
+    office.forget()
     seconds, kib = office.run([])
     print(f"opening, 20,000 puts and 20,000 acts: {seconds:.2f} s, memory {kib} KiB", flush=True)
     seconds, kib = office.explain()

@@ -39,7 +39,7 @@ puts() {
 puts 0 100 >asks
 "$program" run <asks >said
 check 'a copy, status' 0 "$("$backup" office-data/journal copies >name 2>notes; echo $?)"
-check 'its name is said' "$(ls copies | grep Z)" "$(sed 's|copies/||' name)"
+check 'its name is said' "$(ls copies | grep '^journal.*Z')" "$(sed 's|copies/||' name)"
 first=$(cat name)
 check 'the program reads the copy' 100 "$(objects "$first")"
 
@@ -63,7 +63,7 @@ done
 wait "$run"
 check 'all copies are kept' yes "$([ "$(copies)" -ge 2 ] && echo yes || echo no)"
 check '--keep 1, status' 0 "$("$backup" --keep 1 office-data/journal copies >name 2>notes; echo $?)"
-check '--keep 1 leaves one copy' "1 $(sed 's|copies/||' name)" "$(copies) $(ls copies | grep Z)"
+check '--keep 1 leaves one copy' "1 $(sed 's|copies/||' name)" "$(copies) $(ls copies | grep '^journal.*Z')"
 
 # A journal whose front changed is not kept, and costs no copy. Nor is one that is damaged behind what was copied before.
 cp office-data/journal whole
@@ -74,7 +74,8 @@ check 'a changed front, the copies' 1 "$(copies)"
 check 'a damaged journal, status' 5 "$("$backup" office-data/journal others >said 2>notes; echo $?)"
 check 'a damaged journal, the copies' 0 "$(find others -name 'journal-*Z' | grep -c .)"
 
-# What docs/OPERATIONS.md does where no copy has as many entries: it closes the gate at which the damage is.
+# What docs/OPERATIONS.md does where no copy has as many entries: it closes the gate at which the damage is, and removes the checkpoints.
+rm -f office-data/check.0 office-data/check.1
 count=$("$root/tools/journal-dump" whole | grep -c .)
 gate=$("$root/tools/journal-dump" whole | sed -n 's/^{"offset":\([0-9]*\).*/\1/p' | sed -n "$((count - 4))p")
 cp whole office-data/journal

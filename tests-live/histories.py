@@ -259,7 +259,7 @@ class History:
             return reply
         reply = self.reply_to(KINDS[which], it)
         if token:
-            self.kept.keep(token, which + 1, fields, reply)
+            self.kept.keep(token, which + 1, fields, reply, self.now)
             self.append(self.now, number(which + 1 | 0x80, 1) + number(len(token), 1) + token.encode() + fields)
         elif reply != {"action": "none"}:
             self.append(self.now, number(which + 1, 1) + fields)

@@ -52,7 +52,7 @@ if has bash 'the completions of bash'; then
     }
     check 'bash: words of a tool' 'get set add edit remove preview' "$(complete_tool office-lifecycle --bucket logs '' | tr -d '\n')"
     check 'bash: words of journal-digest' 'verify extend mend' "$(complete_tool office-journal-digest '' | tr -d '\n')"
-    for tool in act-all month-end lifecycle import-inventory bill usage usage-page metrics backup; do
+    for tool in act-all month-end lifecycle import-inventory bill usage usage-page metrics backup journal-dump; do
         for option in $(complete_tool "office-$tool" --); do
             check "$tool knows $option" yes "$("$root/tools/$tool" --help | grep -q -e "$option" && echo yes)"
         done

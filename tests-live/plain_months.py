@@ -100,17 +100,30 @@ def shown(tariff):
     return {"from": tariff["from"], **{table: {name: value(tiers) for name, tiers in tariff[table].items()} for table in TABLES}}
 
 
+def moves_field(tariff):
+    return b"".join(tariff["transition"][name][0][1].to_bytes(4, "big") for name in CLASSES[1:])
+
+
+def month_field(month):
+    year, number = map(int, month.split("-"))
+    return year.to_bytes(2, "big") + bytes([number])
+
+
+def tariff_field(tariff):
+    """A tariff with its first month and the tiers of each class."""
+    fields = month_field(tariff["from"])
+    for name in CLASSES:
+        them = tariff["storage"][name]
+        fields += bytes([len(them)]) + b"".join((upto or 0).to_bytes(4, "big") + price.to_bytes(4, "big") for upto, price in them)
+    return fields + moves_field(tariff)
+
+
 def entry_of(tariff):
     """The kind and the fields of the entry that sets a tariff."""
-    moves = b"".join(tariff["transition"][name][0][1].to_bytes(4, "big") for name in CLASSES[1:])
     tiers = [tariff["storage"][name] for name in CLASSES]
     if tariff["from"] == FIRST and all(len(it) == 1 for it in tiers):
-        return bytes([0x0E]) + b"".join(it[0][1].to_bytes(4, "big") for it in tiers) + moves
-    year, month = map(int, tariff["from"].split("-"))
-    fields = year.to_bytes(2, "big") + bytes([month])
-    for them in tiers:
-        fields += bytes([len(them)]) + b"".join((upto or 0).to_bytes(4, "big") + price.to_bytes(4, "big") for upto, price in them)
-    return bytes([0x10]) + fields + moves
+        return bytes([0x0E]) + b"".join(it[0][1].to_bytes(4, "big") for it in tiers) + moves_field(tariff)
+    return bytes([0x10]) + tariff_field(tariff)
 
 
 # ---- charges

@@ -21,7 +21,7 @@ def refuse_fields(tokens, kind):
 
 
 class Kept:
-    """The replies that are kept, oldest first: a kind of command, the command, and its reply by token."""
+    """The replies that are kept, oldest first: a kind of command, the command, its reply, and the moment of both, by token."""
 
     def __init__(self, most=MOST_KEPT):
         self.most, self.replies = most, {}
@@ -30,13 +30,13 @@ class Kept:
         """The kept reply to a command; nothing if its token is not kept. Refused if it is kept with another command."""
         if token not in self.replies:
             return None
-        its_kind, its_command, reply = self.replies[token]
+        its_kind, its_command, reply, _ = self.replies[token]
         if (its_kind, its_command) != (kind, command):
             raise Refused("TokenReused", 92, {"kind": its_kind})
         return reply
 
-    def keep(self, token, kind, command, reply):
-        """Keeps the reply to an accepted command."""
-        self.replies[token] = (kind, command, reply)
+    def keep(self, token, kind, command, reply, now):
+        """Keeps the reply to a command that was accepted at a moment."""
+        self.replies[token] = (kind, command, reply, now)
         while len(self.replies) > self.most:
             del self.replies[next(iter(self.replies))]

@@ -26,6 +26,7 @@ from plain_tokens import Kept, refuse_fields  # noqa: E402
 from stand_in_bills import bill  # noqa: E402
 from stand_in_journal import Journal, drawn, made  # noqa: E402
 from stand_in_rules import moment_of, refuse, rules_of  # noqa: E402
+from stand_in_slots import DamagedTail  # noqa: E402
 
 STATUS = {**dict.fromkeys(("NoSuchBucket", "NoRules", "NoSuchKey", "NoSuchVersion", "NoSuchUpload", "NoRoute"), 404),
           **dict.fromkeys(("BucketExists", "NotEnabledBefore", "MonthNotOver", "DueActions", "AlreadyClosed", "EarlierMonthOpen", "NoTariff",
@@ -71,7 +72,7 @@ class Office:
         if reply == {"action": "none"}:
             return reply, None
         if token:
-            self.kept.keep(token, kind, fields, reply)
+            self.kept.keep(token, kind, fields, reply, now)
         self.months.accepted(now)
         self.last = now
         written = entry_of(about)[0] if kind == TARIFF else kind
@@ -280,7 +281,9 @@ def main(words):
         return sys.stderr.write(USAGE) and 1
     try:
         Handler.office, Handler.journal = Office(), Journal()
-        Handler.journal.replay(Handler.office)
+        Handler.journal.replay(Handler.office, words[0] != "explain")
+    except DamagedTail as fault:
+        return sys.stderr.write(f"journal: damaged at {fault}\n") and 5
     except Refused:
         return 5  # what the office does not accept at its place is damage
     except BlockingIOError:
@@ -290,6 +293,7 @@ def main(words):
         return fault.returncode
     if words[0] == "run":
         Input()
+        Handler.journal.close(Handler.office)
     elif words[0] == "report":
         return report(Handler.office, [it for it in words[1:] if it != "--text"][0], "--text" in words)
     elif words[0] == "forecast":

@@ -5,9 +5,8 @@ import pathlib
 import subprocess
 
 from histories import CLOSE, KINDS, TARIFF, Drawn, number
-from plain_months import plain
-from plain_office import CLASSES
 from stand_in_rules import rules_of
+from stand_in_slots import opened, save, tariff_in
 
 DUMP = pathlib.Path(__file__).resolve().parent.parent / "tools" / "journal-dump"
 NAMES = ("create-bucket", "set-versioning", "set-rules", "drop-rules", "put", "delete", "delete-version", "set-tags", "start-upload", "put-part",
@@ -26,12 +25,6 @@ def drawn(now, name, **more):
 def made(now, kind, fields, token):
     """The bytes of an entry."""
     return number(now) + (number(kind, 1) if token is None else number(kind | 0x80, 1) + number(len(token), 1) + token.encode()) + fields
-
-
-def tariff_in(it):
-    """The tariff that an entry sets."""
-    tiers = [[(None, value)] if isinstance(value, int) else [(one.get("upto"), one["price"]) for one in value] for value in it["storage"]]
-    return {**plain([], it["transition"], it["from"]), "storage": dict(zip(CLASSES, tiers))}
 
 
 def about(it):
@@ -62,16 +55,24 @@ class Journal:
     def __init__(self):
         """Status 2, as BlockingIOError, if another process has the lock."""
         self.make()
-        self.lock = open(self.path, "rb")
+        self.lock, self.end, self.begun = open(self.path, "rb"), None, None
         fcntl.flock(self.lock, fcntl.LOCK_EX | fcntl.LOCK_NB)
-        said = subprocess.run([DUMP, "--check", self.path], capture_output=True, text=True, check=True).stdout
-        self.end = int(said.partition("end gate at ")[2].partition(";")[0])
 
-    def replay(self, office):
-        """Does each entry at its moment."""
-        said = subprocess.run([DUMP, self.path], capture_output=True, text=True, check=True).stdout
-        for it in map(json.loads, said.splitlines()):
+    def replay(self, office, by_slot):
+        """Does each entry at its moment: those after the position of a slot, if there is one and it is asked for."""
+        found = opened(self.path, office, lambda it: office.do(*about({"ms": it.moment, **it.command}), it.moment)[0]) if by_slot else None
+        if found is None:
+            said = subprocess.run([DUMP, "--check", self.path], capture_output=True, text=True, check=True).stdout
+            end = int(said.partition("end gate at ")[2].partition(";")[0])
+            found = list(map(json.loads, subprocess.run([DUMP, self.path], capture_output=True, text=True, check=True).stdout.splitlines())), end
+        for it in found[0]:
             office.command(*about(it), [it["token"]] if "token" in it else [], it["ms"])
+        self.end = self.begun = found[1]
+
+    def close(self, office):
+        """Saves a checkpoint if the journal grew."""
+        if self.end > self.begun:
+            save(self.path, office, self.end)
 
     def append(self, entry):
         """Writes an entry, and last the gate before it."""

@@ -58,7 +58,9 @@ class JournalDump(live.Case):
         return self.run_tool("journal-dump", *words)
 
     def by_program(self):
-        """What the program notes of the journal, where it opens it and nothing is asked."""
+        """What the program notes of the journal, where it opens it from the front and nothing is asked."""
+        for name in ("check.0", "check.1"):
+            (self.journal.parent / name).unlink(missing_ok=True)
         ended = self.office("run")
         return ended.returncode, ended.stderr.decode().strip()
 
