@@ -1,5 +1,5 @@
 -- A map that is filled in rising order of its keys.
-use Rattle.std.proofs.Common.{◌≡◌, ◌∙◌, ℕ, Bool, true, false, List, [], ◌∷◌, ◌++◌, Some, Result, Ok, Err, get_or, refl, sym, ap, subst, append_assoc}
+use Rattle.std.proofs.Common.{◌≡◌, ◌∙◌, ℕ, Bool, true, false, List, [], ◌∷◌, ◌++◌, Some, Result, Ok, Err, refl, sym, ap, append_assoc}
 use Rattle.std.specs.Prelude.{OnOk}
 use Rattle.std.specs.Result.{is_err}
 use Rattle.std.specs.Cmp.{IsTotalOrder}
@@ -85,32 +85,23 @@ module _ {K X : Type 0} (R : K → K → Ordering) where
     pub whole : entries ++ left ≡ all
     pub rise : keys_rise R entries ≡ true
 
-  pub fill_begins : (entries left all : List (K × X)) → entries ≡ [] → left ≡ all → IsFilling entries left all
-  fill_begins entries left all none is = record { whole = rw none is; rise = ap (keys_rise R) none }
+  module _ (entries left all : List (K × X)) (so_far : IsFilling entries left all) (k : K) (v : X) (rest : List (K × X)) (is : left ≡ (k, v) ∷ rest) where
+    next : entries ++ (k, v) ∷ rest ≡ all
+    next = ap (λ (l : List (K × X)). entries ++ l) (sym is) ∙ so_far.whole
 
-  module _ (entries left all : List (K × X)) (so_far : IsFilling entries left all) where
-    pub fill_ends : left ≡ [] → (entries ≡ all) × (keys_rise R all ≡ true)
-    fill_ends none =
-        let same : entries ≡ all = sym (append-nil entries) ∙ ap (λ (l : List (K × X)). entries ++ l) (sym none) ∙ so_far.whole in
-        (same, ap (keys_rise R) (sym same) ∙ so_far.rise)
+    falls_by : (b : Bool) → keys_rise R all ≡ b → list_all (before k) entries ≡ false → keys_rise R all ≡ false
+    falls_by false is_b not = is_b
+    falls_by true is_b not = absurd (false≢true (sym not ∙ rise_front entries (k, v) rest (ap (keys_rise R) next ∙ is_b)))
 
-    module _ (k : K) (v : X) (rest : List (K × X)) (is : left ≡ (k, v) ∷ rest) where
-      next : entries ++ (k, v) ∷ rest ≡ all
-      next = ap (λ (l : List (K × X)). entries ++ l) (sym is) ∙ so_far.whole
+    -- a key that is not above those of the map
+    pub fill_falls : list_all (before k) entries ≡ false → keys_rise R all ≡ false
+    fill_falls not = falls_by (keys_rise R all) refl not
 
-      falls_by : (b : Bool) → keys_rise R all ≡ b → list_all (before k) entries ≡ false → keys_rise R all ≡ false
-      falls_by false is_b not = is_b
-      falls_by true is_b not = absurd (false≢true (sym not ∙ rise_front entries (k, v) rest (ap (keys_rise R) next ∙ is_b)))
-
-      -- a key that is not above those of the map
-      pub fill_falls : list_all (before k) entries ≡ false → keys_rise R all ≡ false
-      fill_falls not = falls_by (keys_rise R all) refl not
-
-      -- one more pair
-      pub fill_more : IsTotalOrder R → list_all (before k) entries ≡ true → (new : List (K × X)) → new ≡ insert_entry R entries k v → IsFilling new rest all
-      fill_more o above new inserted =
-          let pushed : new ≡ entries ++ (k, v) ∷ [] = inserted ∙ insert_last o entries k v above in
-          record {
-            whole = rw pushed (append_assoc entries ((k, v) ∷ []) rest ∙ next);
-            rise = ap (keys_rise R) pushed ∙ rise_push entries (k, v) so_far.rise above;
-          }
+    -- one more pair
+    pub fill_more : IsTotalOrder R → list_all (before k) entries ≡ true → (new : List (K × X)) → new ≡ insert_entry R entries k v → IsFilling new rest all
+    fill_more o above new inserted =
+        let pushed : new ≡ entries ++ (k, v) ∷ [] = inserted ∙ insert_last o entries k v above in
+        record {
+          whole = rw pushed (append_assoc entries ((k, v) ∷ []) rest ∙ next);
+          rise = ap (keys_rise R) pushed ∙ rise_push entries (k, v) so_far.rise above;
+        }

@@ -1,29 +1,19 @@
--- What is saved and loaded.
-use Rattle.std.proofs.Common.{◌≡◌, ◌≤◌, ℕ, Bool, true, false, List, [], ◌∷◌, length, Option, Some, None, refl, sym, ap, subst, ◌∙◌, arith}
+-- What a reader of a body finds, and what it then spells.
+use Rattle.std.proofs.Common.{◌≡◌, ℕ, Bool, true, false, List, [], ◌∷◌, length, Some, None, refl, sym, ap, subst, ◌∙◌, arith}
 use Rattle.std.specs.Prelude.{◌==◌}
-use Rattle.std.specs.List.{AllByRecursion}
 use Rattle.std.proofs.lemmas.Bool.{false≢true, eqb-true}
 use Rattle.std.proofs.lemmas.Option.{same_Some}
-use Rattle.office_types.specs.Tokens.{takes_token}
-use Rattle.office_types.specs.declared.kept.Kept.{Kept}
-use Rattle.disk_core.specs.declared.disk.Disk as disks
-use Rattle.disk_core.specs.Files.{State}
-use Rattle.disk_core.specs.Moments.{KeepsTo, Untouched}
-use Rattle.disk_core.proofs.Time.{started}
-use Rattle.slots.specs.Saving.{OldOrNew, EachKeeps, kept}
-use Rattle.slots.proofs.Saved.{narrower_old, narrower_still}
 use Rattle.office_snapshot.specs.Snapshots.{SnapshotRecord}
 use Rattle.office_snapshot.specs.Restorable.{IsRestorable}
 use Rattle.entry_codec.proofs.Bytes.{IsBytes}
 use Rattle.checkpoint.specs.Bodies.{body_format, Spells}
 use Rattle.checkpoint.proofs.BodyLaws.{body_again, body_takes}
 
--- ---- reading
-
 -- what is read with nothing behind it, and restored from, is spelled
 pub spelled_by : (bytes : List ℕ) (s : SnapshotRecord) → IsBytes bytes → body_format.front bytes ≡ Some (s, []) → IsRestorable s → Spells bytes s
 spelled_by bytes s fits e restorable = let t = body_takes bytes s fits e in record { bytes_are = t.0; in_range = t.1; restorable = restorable }
 
+-- a body that is spelled is read, with nothing behind it
 reads : (bytes : List ℕ) (s : SnapshotRecord) → Spells bytes s → body_format.front bytes ≡ Some (s, [])
 reads bytes s spelled = ap (λ (l : List ℕ). body_format.front l) spelled.bytes_are ∙ body_again s spelled.in_range
 
@@ -35,6 +25,7 @@ nothing_left none (b ∷ rest) is t = let e : length (b ∷ rest) ≡ 0 = eqb-tr
 pub some_left : (none : Bool) (rest : List ℕ) → none ≡ (length rest == 0) → none ≡ false → rest ≡ [] → ⊥
 some_left none rest is f empty = false≢true (sym f ∙ is ∙ ap (λ (l : List ℕ). length l == 0) empty)
 
+-- bytes that spell none: nothing is read, more is left behind it, or no office is restored from it
 none_some : {A : Type 0} {x : A} → None ≡ Some x → ⊥
 none_some is = absurd cc
 
@@ -48,15 +39,3 @@ pub not_restored : (bytes : List ℕ) (read : SnapshotRecord) (rest : List ℕ) 
 not_restored bytes read rest e not s spelled =
     let same : read ≡ s = ap (λ (x : SnapshotRecord × List ℕ). x.0) (same_Some (read, rest) (s, []) (sym e ∙ reads bytes s spelled)) in
     not (subst IsRestorable (sym same) spelled.restorable)
-
--- ---- a disk that was not touched
-
-module _ {D : Type 0} (d : disks.Ghosts D) (disk : D) (only : (s : State) → d.had_since disk (d.moment disk) s → s ≡ d.state disk) where
-  pub as_before : Untouched d disk disk
-  as_before = started d disk (λ s. s ≡ d.state disk) only refl
-
-  pub old_before : (position : ℕ) (body : List ℕ) → KeepsTo d disk disk (OldOrNew (kept position body) (d.state disk))
-  old_before position body = started d disk (OldOrNew (kept position body) (d.state disk)) only (narrower_old (kept position body) (d.state disk) (d.state disk) (narrower_still (d.state disk) (d.state disk) refl))
-
-  pub kept_before : (s : SnapshotRecord) (place : ℕ) → EachKeeps Spells s place (d.state disk) → KeepsTo d disk disk (EachKeeps Spells s place)
-  kept_before s place each = started d disk (EachKeeps Spells s place) only each

@@ -61,10 +61,7 @@ fn bytes_of(alloc: Global, disk: &mut MemoryDisk, file: FileNo) -> Result<Vec<u8
     Ok(bytes)
 }
 
-fn opened(
-    alloc: Global,
-    disk: MemoryDisk,
-) -> Result<Option<Desk<MemoryDisk, ListClock>>, Fail> {
+fn opened(alloc: Global, disk: MemoryDisk) -> Result<Option<Desk<MemoryDisk, ListClock>>, Fail> {
     let mut numbers = Vec::new(alloc);
     numbers.push(J0)?;
     Ok(Desk::open(alloc, disk, ListClock::new(numbers), 1 << 45).ok())
@@ -118,7 +115,10 @@ fn the_end_of_a_session_saves_a_checkpoint(rt: HostRuntime) -> Result<(), Fail> 
     let alloc = rt.alloc();
     let (mut disk, saved) = after_making(alloc, new_disk(alloc, &[])?, &["logs"])?;
     assert_eq!(rt; saved, Ok(()));
-    assert_eq!(rt; bytes_of(alloc, &mut disk, FileNo::Slot0)?.first(), Some(&0xA7));
+    assert_eq!(rt;
+        bytes_of(alloc, &mut disk, FileNo::Slot0)?.first(),
+        Some(&0xA7)
+    );
     assert_eq!(rt; loaded(alloc, &mut disk), Some((1, 30)));
 
     // A session that accepts no command leaves the slots.
@@ -186,12 +186,7 @@ fn opens_with(
 
 // Stops a disk at each of its calls from the acknowledgement on, and opens each image of its slots; the journal has no
 // other image then.
-fn stops(
-    rt: &impl Abort,
-    alloc: Global,
-    disk: &MemoryDisk,
-    names: &[&str],
-) -> Result<usize, Fail> {
+fn stops(rt: &impl Abort, alloc: Global, disk: &MemoryDisk, names: &[&str]) -> Result<usize, Fail> {
     let mut count = 0;
     for after in ACKNOWLEDGED..ACKNOWLEDGED + LONGEST_END {
         let journals = disk.images(FileNo::Journal, after)?;

@@ -105,11 +105,13 @@ orderly_decides last first_open s =
 -- ---- buckets as an office has them
 
 module _ (P : BucketRecord → Type 0) where
-  mapped : (parts : List BucketPartRecord) → AllByRecursion (λ (part : BucketPartRecord). P part.bucket) parts → AllByRecursion (λ (account : List ℕ × Account). P account.1.bucket) (map account_of parts)
+  mapped : (parts : List BucketPartRecord) → AllByRecursion (λ (part : BucketPartRecord). P part.bucket) parts
+      → AllByRecursion (λ (account : List ℕ × Account). P account.1.bucket) (map account_of parts)
   mapped [] all = tt
   mapped (part ∷ parts) all = (all.0, mapped parts all.1)
 
-  back_mapped : (parts : List BucketPartRecord) → AllByRecursion (λ (account : List ℕ × Account). P account.1.bucket) (map account_of parts) → AllByRecursion (λ (part : BucketPartRecord). P part.bucket) parts
+  back_mapped : (parts : List BucketPartRecord) → AllByRecursion (λ (account : List ℕ × Account). P account.1.bucket) (map account_of parts)
+      → AllByRecursion (λ (part : BucketPartRecord). P part.bucket) parts
   back_mapped [] all = tt
   back_mapped (part ∷ parts) all = (all.0, back_mapped parts all.1)
 

@@ -112,9 +112,13 @@ pub part_decides : (last : ℕ) (part : BucketPartRecord) → Decides (is_orderl
 part_decides last part =
     change (is_orderly_part last part) to back
     (both _ _ (both _ _ (both _ _
-    (both _ _ (both _ _ (both _ _ (both _ _ (lt 0 part.bucket.next_version) (lt part.bucket.next_version (2 ^ 62))) (lt 0 part.bucket.next_upload)) (lt part.bucket.next_upload (2 ^ 62))) (le part.bucket.rules_since last))
-    (both _ _ (rises_decide bytes_cmp part.bucket.stacks) (each (λ stack. is_orderly_stack part.bucket.versioning part.bucket.next_version last stack.1) (λ stack. IsOrderlyStack part.bucket.versioning part.bucket.next_version last stack.1) (λ stack. stack_decides part.bucket.versioning part.bucket.next_version last stack.1) part.bucket.stacks)))
-    (both _ _ (rises_decide nat_cmp part.bucket.uploads) (each (is_orderly_upload part.bucket.next_upload last) (IsUploadOf part.bucket.next_upload last) (upload_decides part.bucket.next_upload last) part.bucket.uploads)))
+    (both _ _ (both _ _ (both _ _ (both _ _ (lt 0 part.bucket.next_version) (lt part.bucket.next_version (2 ^ 62)))
+    (lt 0 part.bucket.next_upload)) (lt part.bucket.next_upload (2 ^ 62))) (le part.bucket.rules_since last))
+    (both _ _ (rises_decide bytes_cmp part.bucket.stacks)
+    (each (λ stack. is_orderly_stack part.bucket.versioning part.bucket.next_version last stack.1)
+    (λ stack. IsOrderlyStack part.bucket.versioning part.bucket.next_version last stack.1) (λ stack. stack_decides part.bucket.versioning part.bucket.next_version last stack.1) part.bucket.stacks)))
+    (both _ _ (rises_decide nat_cmp part.bucket.uploads)
+    (each (is_orderly_upload part.bucket.next_upload last) (IsUploadOf part.bucket.next_upload last) (upload_decides part.bucket.next_upload last) part.bucket.uploads)))
     (months_decide last part.sums))
   where
     to : PartParts last part → IsPart last part

@@ -12,7 +12,8 @@ loop-head-preserved c =
     join_more c.loop-head.parts.items c.loop-head.head-iterator.rest.items c.loop-head.stacks.rest.items c.loop-head.uploads.rest.items c.loop-head.sums.rest.items
     (joined c.args.heads.items c.args.lists.stacks.items c.args.lists.uploads.items c.args.lists.sums.items) c.loop-head.invariant
     c.in-Some.head c.next.new.self.rest.items c.in-Some-next.its_stacks c.next-in-loop-head.new.self.rest.items c.in-Some-next-2.its_uploads c.next-in-loop-head-2.new.self.rest.items
-    c.in-Some-next-3.its_sums c.next-in-loop-head-3.new.self.rest.items c.push.new.self.items c.in-Some.ensures.steps.0 c.in-Some-next.ensures.cases.0 c.in-Some-next-2.ensures.cases.0 c.in-Some-next-3.ensures.cases.0
+    c.in-Some-next-3.its_sums c.next-in-loop-head-3.new.self.rest.items c.push.new.self.items
+    c.in-Some.ensures.steps.0 c.in-Some-next.ensures.cases.0 c.in-Some-next-2.ensures.cases.0 c.in-Some-next-3.ensures.cases.0
     (one ∙ ap (λ part. c.loop-head.parts.items ++ part ∷ []) c.part_of.ensures)
 
 pub returns : goal.returns

@@ -17,4 +17,6 @@ loop-preserved g c =
     (front_items g.T.Spelled.format c.args.count c.args.bytes.now) c.loop-test.true some c.loop.invariant)
 
 pub returns : goal.returns
-returns g c = is_done g.T.Spelled.format c.loop.items.items c.args.count c.loop.counter c.loop.rest.now (front_items g.T.Spelled.format c.args.count c.args.bytes.now) c.loop-test.false c.loop.invariant
+returns g c =
+    is_done g.T.Spelled.format c.loop.items.items c.args.count c.loop.counter c.loop.rest.now
+    (front_items g.T.Spelled.format c.args.count c.args.bytes.now) c.loop-test.false c.loop.invariant

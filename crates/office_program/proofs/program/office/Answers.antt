@@ -434,8 +434,7 @@ returns-in-Ok-Forecast-clause-sound g c tells sound =
     let k = g.C.Clock in
     let w = g.W.Replies in
     let asked = asking c.in-Ok-Forecast.asked.bucket c.in-Ok-Forecast.asked.day in
-    let input = stream_ends (g.S.Source.left c.args.input.now) (g.S.Source.left c.foretell.new.input) in
-    (
+    let input = stream_ends (g.S.Source.left c.args.input.now) (g.S.Source.left c.foretell.new.input) in (
       c.foretell.ensures.sound tells sound,
       starts_sound d k w tells (c.foretell.new.input ≡ c.args.input.now) (ForecastsBucket d w asked input) (foretold_sound d k w tells asked input)
           (around c.args.disk c.args.clock c.args.out.now)

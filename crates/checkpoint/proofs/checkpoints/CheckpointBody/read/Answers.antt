@@ -1,6 +1,5 @@
-use Rattle.std.proofs.Common.{◌≡◌, ◌∙◌, [], None, Some, option_map, sym, ap, arith}
+use Rattle.std.proofs.Common.{◌≡◌, ◌∙◌, [], Some, option_map, sym, ap, arith}
 use Rattle.std.proofs.lemmas.Bool.{false≢true}
-use Rattle.checkpoint.specs.Bodies.{body_format}
 use Rattle.checkpoint.proofs.Saved.{spelled_by, nothing_read, more_read, not_restored, nothing_left, some_left}
 use Rattle.checkpoint.proofs.checkpoints.CheckpointBody.read.Goals as goal
 
