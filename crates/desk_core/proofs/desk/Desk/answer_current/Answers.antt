@@ -1,5 +1,6 @@
-use Rattle.std.proofs.Common.{◌≡◌, Bool, false, IsTrue, ◌∷◌, [], ◌++◌, Err, inr, sym, ◌∙◌, subst}
+use Rattle.std.proofs.Common.{◌≡◌, Bool, false, IsTrue, ◌∷◌, [], ◌++◌, Err, inl, inr, sym, ◌∙◌, subst}
 use Rattle.std.proofs.lemmas.Bool.{both_ways}
+use Rattle.disk_core.specs.declared.disk.Disk as disks
 use Rattle.disk_core.specs.declared.disk.FileNo.TheVariants.{Journal}
 use Rattle.disk_core.proofs.Laws.{laws_of}
 use Rattle.desk_core.specs.Answers.{Call}
@@ -9,11 +10,21 @@ use Rattle.desk_core.specs.Reading.{IsOpenable}
 use Rattle.desk_core.specs.declared.fault.DeskFault.TheVariants.{Broken}
 use Rattle.checkpoint.proofs.BodyLaws.{one_value}
 use Rattle.meter_journal.specs.declared.fault.OpenFault.{OpenFault}
-use Rattle.desk_core.proofs.Openable.{narrower_openable}
+use Rattle.desk_core.proofs.Openable.{narrower_openable, reads_ready}
 use Rattle.desk_core.proofs.Reopened.{unopened_call, asked_call, answer_err, openable_unbroken}
 use Rattle.desk_core.proofs.Standing.{marked_ready}
 use Rattle.desk_core.proofs.Submitted.{fresh_after, marked_causes, asked_told, unopened_told}
 use Rattle.desk_core.proofs.desk.Desk.answer_current.Goals as goal
+
+-- the office that answers is ready
+office_ready : {D C : Type 0} (d : disks.Ghosts D) (old office : DeskView D C) → (old.stale ≡ false → IsReady d old) → IsOffice d old office → IsReady d office
+office_ready {D} {C} d old office ready (inl (fresh, same)) = subst (λ (x : DeskView D C). IsReady d x) (sym same) (ready fresh)
+office_ready d old office ready (inr (stale, again)) = reads_ready d old.disk office again.reads
+
+pub answer_now-said-requires : goal.answer_now-said-requires
+answer_now-said-requires g c = record {
+  ready = office_ready g.D.Disk c.self.inside.engine c.refresh.new.self c.self.invariant.0 c.in_default.ensures.office;
+}
 
 pub returns-in-Err-clause-stands : goal.returns-in-Err-clause-stands
 returns-in-Err-clause-stands g c opened calls stands =

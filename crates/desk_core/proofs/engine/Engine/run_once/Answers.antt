@@ -62,8 +62,8 @@ returns-in_default g c =
           absurd (not_passing c.args.moment c.args.self.now c.args.token.now c.args.command.now p (Err c.in-Err.refusal) takes hold.office.stands
           (refusal_told_again p c.args.token.now c.args.command.now c.in-Err.refusal c.in_default.not-NoMemory (c.in-Err.ensures.exact p stands)) passes);
       clock = search rules;
-      replies = λ p stands. so_again c.args.moment c.args.token.now c.args.command.now takes p c.self.inside.office (Err c.in-Err.refusal) c.answer-in_default.result
-          (ap (λ (a : Answer). a.reply) c.answer-in_default.ensures) (subst (λ (s : P). StandsFor s.office p) (sym c.self.view_is) stands)
+      replies = λ p stands. so_again c.args.moment c.args.token.now c.args.command.now takes p c.args.self.now.office (Err c.in-Err.refusal) c.answer-in_default.result
+          (ap (λ (a : Answer). a.reply) c.answer-in_default.ensures) stands
           (refusal_told_again p c.args.token.now c.args.command.now c.in-Err.refusal c.in_default.not-NoMemory
           (c.in-Err.ensures.exact p (subst (λ (s : P). StandsFor s.office p) (sym c.self.view_is) stands)));
       limit = search rules;
@@ -86,5 +86,5 @@ returns-in-Ok-Some-clause-replies g c = λ p stands.
     let P : Type 0 = DeskView g.row.D.Denot g.row.C.Denot in
     let takes : takes_token c.args.command.now ≡ true = search rules in
     let there = subst (λ (s : P). StandsFor s.office p) (sym c.self.view_is) stands in
-    so_again c.args.moment c.args.token.now c.args.command.now takes p c.self.inside.office (Ok c.in-Ok-Some.reply) c.answer.result (ap (λ (a : Answer). a.reply) c.answer.ensures) there
+    so_again c.args.moment c.args.token.now c.args.command.now takes p c.args.self.now.office (Ok c.in-Ok-Some.reply) c.answer.result (ap (λ (a : Answer). a.reply) c.answer.ensures) stands
     (reply_told_again p c.args.token.now c.args.command.now c.in-Ok-Some.field-0 c.in-Ok-Some.reply (search rules) (c.in-Ok-Some.ensures.exact p there))
