@@ -4,7 +4,7 @@
 PROGRAM is crates/office_cli/out/office_cli. A journal with a bucket and ENTRIES puts of objects (100,000), each under a
 key of its own, is made in FOLDER. Then runs over an empty input, which open it and end, alternate with plain reads of the
 same file by this script: first without checkpoints, so that the whole journal is replayed, and, if the program saved one,
-with it (`checkpoint_seconds`). The time of a run includes the start of the process, about a millisecond.
+with it (`checkpoint_seconds`). Runs of one put more follow, whose end saves a checkpoint (`end_seconds`, without the opening). The time of a run includes the start of the process, about a millisecond.
 """
 import datetime
 import os
@@ -39,20 +39,22 @@ def main(program, folder=None, rounds=9, entries=100_000):
         journal = os.path.join(work, "office-data", "journal")
         slots = {path: read_all(path) for path in (os.path.join(work, "office-data", it) for it in ("check.0", "check.1")) if os.path.exists(path)}
 
-        def opening(kept):
+        def opening(kept, sent=b""):
             """A run with these checkpoints."""
             for path, data in slots.items():
                 pathlib.Path(path).write_bytes(data if kept else b"")
-            return seconds(lambda: subprocess.run([program, "run"], cwd=work, check=True, stdin=subprocess.DEVNULL))
+            return seconds(lambda: subprocess.run([program, "run"], cwd=work, check=True, input=sent, stdout=subprocess.DEVNULL))
         opens, reads, loads = [], [], []
         for _ in range(rounds):
             opens.append(opening(False))
             reads.append(seconds(lambda: read_all(journal)))
             loads += [opening(True)] if any(slots.values()) else []
+        ends = [opening(True, put % (entries + it)) for it in range(rounds)] if loads else []
         opened, read = statistics.median(opens), statistics.median(reads)
         print(f"entries {entries} bytes {os.path.getsize(journal)} open_seconds {opened:.4f} read_seconds {read:.4f}", end=" ")
         if loads:
             print(f"checkpoint_bytes {max(map(len, slots.values()))} checkpoint_seconds {statistics.median(loads):.4f}", end=" ")
+            print(f"end_seconds {statistics.median(ends) - statistics.median(loads):.4f}", end=" ")
         print(f"entries_per_second {entries / opened:.0f} rounds {rounds} date {datetime.date.today()}")
 
 
