@@ -1,5 +1,5 @@
 -- A desk that holds a history answers one call.
-use Rattle.std.proofs.Common.{◌≡◌, ℕ, ◌+◌, ◌-◌, ◌^◌, min, Bool, false, List, [], ◌∷◌, ◌++◌, Ok, refl, sym, ap, ◌∙◌, subst, arith, inl, inr, ⊎_elim}
+use Rattle.std.proofs.Common.{◌≡◌, ℕ, ◌+◌, ◌-◌, ◌^◌, ◌≤◌, min, Bool, false, List, [], ◌∷◌, ◌++◌, Ok, refl, sym, ap, ◌∙◌, subst, arith, inl, inr, ⊎_elim}
 use Rattle.std.specs.Prelude.{◌⊎◌, IsTrue, IsSomeAnd}
 use Rattle.std.proofs.lemmas.Bool.{both_ways}
 use Rattle.disk_core.specs.declared.disk.Disk as disks
@@ -14,8 +14,8 @@ use Rattle.desk_core.specs.Histories.{FitsHistory, SlotsFit, IsSound}
 use Rattle.office_types.specs.declared.command.Ask.{Ask}
 use Rattle.office_types.specs.declared.command.Entry.{Entry}
 use Rattle.plain_office.specs.Run.{run}
-use Rattle.meter_journal.specs.History.{header, IsAtRest}
-use Rattle.meter_journal.proofs.History.{each_image}
+use Rattle.meter_journal.specs.History.{header, end_gate, IsAtRest}
+use Rattle.meter_journal.proofs.History.{each_image, end_gate-none}
 use Rattle.desk_core.specs.declared.clock.Clock as clocks
 use Rattle.desk_core.specs.Answers.{Answer, Call}
 use Rattle.desk_core.specs.Submitting.{IsOffice, HasCauses, Unopened}
@@ -41,6 +41,22 @@ empty_fits s is = subst (SlotsFit []) (sym is) (record {
   slot0 = λ image own. none_kept [] image (synced_image [] image own);
   slot1 = λ image own. none_kept [] image (synced_image [] image own);
 })
+
+-- the end gate of a journal that is held
+pub gate_small : (history : List Entry) (gate : ℕ) → gate ≡ end_gate header history → (history ≡ []) ⊎ (gate ≤ 2 ^ 45) → gate ≤ 2 ^ 45
+gate_small history gate end (inl none) = omega (arith, end, ap (end_gate header) none, end_gate-none header)
+gate_small history gate end (inr small) = small
+
+-- a disk with a journal without entries, whose slots fit it, is sound
+empty_sound : (s : State) → IsAtRest header s 10 [] → SlotsFit [] s → IsSound s
+empty_sound s rest fit images are = (
+  [],
+  record {
+    journal = rest_image s 10 [] empty_office rest run_none images.journal are.journal;
+    slot0 = fit.slot0 images.slot0 are.slot0;
+    slot1 = fit.slot1 images.slot1 are.slot1;
+  },
+)
 
 module _ {D C : Type 0} {d : disks.Ghosts D} (laws : DiskLaws d) where
   -- it stands for no call since now
@@ -89,22 +105,11 @@ module _ {D C : Type 0} {d : disks.Ghosts D} (laws : DiskLaws d) where
       (λ own. causes.once ∙ ap (λ (parts : DeskView D C). min (k.count parts.clock + 1) (2 ^ 64 - 1)) own.1)
       (λ again. absurd (both_ways desk.stale fresh again.0)) is
 
-  -- a disk with a journal without entries, whose slots fit it, is sound
-  empty_sound : (disk : D) → IsAtRest header (d.state disk) 10 [] → SlotsFit [] (d.state disk) → IsSound (d.state disk)
-  empty_sound disk rest fit images are = (
-    [],
-    record {
-      journal = rest_image (d.state disk) 10 [] empty_office rest run_none images.journal are.journal;
-      slot0 = fit.slot0 images.slot0 are.slot0;
-      slot1 = fit.slot1 images.slot1 are.slot1;
-    },
-  )
-
   -- a desk that was opened over it holds none
   pub opened_empty : (disk : D) (clock : C) (limit : ℕ) (desk : DeskView D C) → IsTrue d.honest → IsAtRest header (d.state disk) 10 [] → SlotsFit [] (d.state disk)
       → Opens d disk clock limit desk → HoldsSoundly d [] desk
   opened_empty disk clock limit desk tells rest fit opens =
-      let known = opens.sound tells (empty_sound disk rest fit) in
+      let known = opens.sound tells (empty_sound (d.state disk) rest fit) in
       let found = known.stands.holds opens.fresh in
       let seen = (d.state disk).journal.seen in
       let none : known.history ≡ [] = unique known.history [] seen known.read (each_image header (d.state disk) 10 [] rest seen (laws.reads_image tells disk Journal)) in
