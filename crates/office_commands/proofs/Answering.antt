@@ -76,10 +76,16 @@ module _ {D C W : Type 0} {d : disks.Ghosts D} (laws : DiskLaws d) (k : clocks.G
   stream_answered disk clock old new last saved ending out_old out_mid out_new read end stale status opens s taken closes cause same silent says note stale_new is =
       let calls = calls_of s.talk.spoken.exchanges in
       let stale_end : stale ≡ stale_by false calls = stale_new ∙ ends_stale laws k disk clock journal_limit old new calls opens s.moved in
+      let answered = answers_calls laws k disk clock journal_limit old new calls opens s.moved last saved closes cause ending same in
       record {
         end = end;
         talk = s.talk;
-        answers = answers_calls laws k disk clock journal_limit old new calls opens s.moved last saved closes cause ending same;
+        answers = record {
+          calls_are = record { first = old; opens = opens; last = new; moved = s.moved; saved = saved; closes = closes; cause = cause; clock = same };
+          sound = answered.sound;
+          faults = answered.faults;
+          numbers = answered.numbers;
+        };
         said_all = subst (λ (x : Option (List ℕ)). Appends (w.said out_old) x s.talk.spoken.written) (sym silent.0) s.said;
         stamped = subst (λ (x : Option (List ℕ)). Appends (w.moments out_old) x (moments_of s.talk.spoken.whole)) (sym silent.1) s.stamped;
         taken = taken;
