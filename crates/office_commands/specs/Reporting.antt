@@ -21,7 +21,7 @@ use Rattle.desk_core.specs.Opening.{Opens}
 use Rattle.desk_core.specs.Looking.{IsRead, IsReplyOf}
 use Rattle.http_front.specs.declared.replies.Replies as sinks
 use Rattle.office_commands.specs.Lines.{tariff_note}
-use Rattle.office_commands.specs.Running.{Surroundings, IsNoted, IsSilent, IsPutOut, RunsOut, Starts}
+use Rattle.office_commands.specs.Running.{journal_limit, Surroundings, IsNoted, IsSilent, IsPutOut, RunsOut, Starts}
 
 -- a report is printed as a table to read, or as CSV
 abbrev pub report_bytes : Bool → List ReportLine → List ℕ
