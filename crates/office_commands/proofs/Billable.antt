@@ -9,6 +9,8 @@ use Rattle.meter_journal.specs.declared.fault.OpenFault.{OpenFault}
 use Rattle.meter_journal.specs.declared.fault.OpenFault.TheVariants as faults
 use Rattle.meter_journal.proofs.Unique.{entries_unique}
 use Rattle.office_types.specs.declared.command.Entry.{Entry}
+use Rattle.office_types.specs.declared.command.Query.TheVariants as query
+use Rattle.office_types.specs.declared.reply.Reply.TheVariants as reply
 use Rattle.plain_office.specs.Office.{Office}
 use Rattle.bill_book.specs.declared.bill.Bill.{Bill}
 use Rattle.bill_book.specs.declared.keeper.BillKeeper as keepers
@@ -21,6 +23,7 @@ use Rattle.bill_posting.specs.Differences.{is_same_bill, first_difference}
 use Rattle.bill_posting.specs.Posting.{DoesPost}
 use Rattle.desk_core.specs.declared.clock.Clock as clocks
 use Rattle.desk_core.specs.Histories.{HasAcceptedHistory, IsSound}
+use Rattle.desk_core.specs.Looking.{IsRead}
 use Rattle.http_front.specs.declared.replies.Replies as sinks
 use Rattle.office_commands.specs.Lines.{fault_exit}
 use Rattle.office_commands.specs.Running.{Surroundings, around}
@@ -77,7 +80,7 @@ module _ (status : ℕ) where
           let closed : IsClosed one.month after.office =
           subst (λ (p : Office). IsClosed one.month p) (same_Some can.office after.office (sym can.is_run ∙ after.is_run)) can.closed in
           let bills = after.bills in
-          let read = record { plain = after.office; is_run = after.is_run; answered = bills.is_read closed } in
+          let read : IsRead first (query.Report one.month) history (Ok (reply.Report bills.lines)) = record { plain = after.office; is_run = after.is_run; answered = bills.is_read closed } in
           ⊎_elim
           (λ billed. ⊎_elim
           (λ (posts : PostsLines w b bills.lines one old new status). answer_done posts.answer posts.told

@@ -73,7 +73,7 @@ module _ (status : ℕ) where
     proposal_done asked office in_time accepted (inr (inl told)) =
         ⊎_elim
         (λ refused. absurd (not_refused (proposed asked office).1 refused.0 accepted refused.1))
-        (λ foretold. ⊎_elim (λ all. inl all.0) (λ lost. absurd (four lost.0)) foretold.2.1) told.1
+        (λ foretold. ⊎_elim (λ all. inl all.0) (λ lost. absurd (four lost.0)) foretold.2) told.1
 
     module _ (history : List Entry) (asked : ForecastAsked) (bytes : List ℕ) (first : ℕ) (can : CanForecast history asked bytes first)
         (input : StreamEnds) (tells : input.stream ≡ Some bytes) where

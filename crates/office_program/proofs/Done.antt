@@ -250,7 +250,7 @@ asked_in None = ([], 0)
 asked_in (Some line) = asked_of line
 
 pub same_forecast : (line : Option Line) (bucket other : List ℕ) (day later : ℕ) → line ≡ Some (forecast bucket day) → line ≡ Some (forecast other later)
-    → (bucket, day) ≡ (other, later)
+    → ◌≡◌ {A = List ℕ × ℕ} (bucket, day) (other, later)
 same_forecast line bucket other day later first second = ap asked_in (sym first ∙ second)
 
 -- a month that is billed
