@@ -6,7 +6,7 @@ use Rattle.http_front.specs.Counts.{stream_ends}
 use Rattle.http_front.specs.Exchanges.{calls_of}
 use Rattle.serving.specs.Serving.{log_calls}
 use Rattle.office_commands.specs.Billing.{billing, LeavesKeeper, BillsMonth, CanBill}
-use Rattle.office_commands.specs.Forecasting.{asking, ForecastsBucket, CanForecast}
+use Rattle.office_commands.specs.Forecasting.{asking, Forecasts, ForecastsBucket, CanForecast}
 use Rattle.office_commands.specs.Reporting.{TellsMonth}
 use Rattle.office_commands.specs.Running.{around, under, journal_limit, AnswersStream}
 use Rattle.office_program.specs.Workers.{AnswersWorkers, Connects}
@@ -484,6 +484,15 @@ returns-in-Ok-Forecast-clause-causes g c =
       input_only = λ _. inr (c.in-Ok-Forecast.asked.bucket, c.in-Ok-Forecast.asked.day, line);
       forecast_only = λ _. (c.in-Ok-Forecast.asked.bucket, c.in-Ok-Forecast.asked.day, line);
     }
+
+pub returns-in-Ok-Forecast-clause-forecast : goal.returns-in-Ok-Forecast-clause-forecast
+returns-in-Ok-Forecast-clause-forecast g c bucket day is =
+    let line = c.in-Ok-Forecast.ensures.read ∙ ap (λ (l : CommandLine). Some (line_of l)) c.in-Ok-Forecast.field-0-is in
+    let input = stream_ends (g.S.Source.left c.args.input.now) (g.S.Source.left c.foretell.new.input) in
+    inl (subst
+    (λ (a : List ℕ × ℕ). Forecasts g.D.Disk g.C.Clock g.W.Replies (c.foretell.new.input ≡ c.args.input.now) (asking a.0 a.1) input
+    (around c.args.disk c.args.clock c.args.out.now) (around c.foretell.result.disk c.foretell.result.clock c.foretell.new.out) c.foretell.result.status)
+    (same_forecast _ c.in-Ok-Forecast.asked.bucket bucket c.in-Ok-Forecast.asked.day day line is) c.foretell.ensures.forecasts)
 
 pub returns-in-Ok-Forecast-clause-forecastable : goal.returns-in-Ok-Forecast-clause-forecastable
 returns-in-Ok-Forecast-clause-forecastable g c bucket day history bytes is tells sound has left can none eight =
