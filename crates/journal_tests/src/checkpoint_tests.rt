@@ -17,6 +17,9 @@ const EMPTY: &[u8] = &[
     0xA5, 0x4D, 0x45, 0x54, 0x45, 0x52, 0x4A, 0x52, 0x4E, 0x31, 0,
 ];
 
+// First bytes of a slot that is not open.
+const OTHER_GATES: &[u8] = &[0x37, 0xA5, 0xA6];
+
 // The calls of the disk until the first bucket is acknowledged, from the write of the journal file to the sync of the
 // gate behind its entry.
 const ACKNOWLEDGED: u64 = 13;
@@ -140,8 +143,8 @@ fn the_end_of_a_session_saves_a_checkpoint(rt: HostRuntime) -> Result<(), Fail> 
 fn a_slot_with_another_gate_is_not_open(rt: HostRuntime) -> Result<(), Fail> {
     let alloc = rt.alloc();
     let (mut disk, _) = after_making(alloc, new_disk(alloc, &[])?, &["logs"])?;
-    for gate in [0x37, 0xA5, 0xA6] {
-        disk.write_at(FileNo::Slot0, 0, &[gate])?;
+    for gate in OTHER_GATES {
+        disk.write_at(FileNo::Slot0, 0, &[*gate])?;
         assert_eq!(rt; loaded(alloc, &mut disk), None, "gate {gate}");
     }
     // The journal is replayed to the same office.
