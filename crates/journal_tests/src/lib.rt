@@ -2,8 +2,6 @@
 #![tactic(auto)]
 
 #[cfg(test)]
-mod checkpoint_tests;
-#[cfg(test)]
 mod desk_core_tests;
 #[cfg(test)]
 mod generator_tests;
