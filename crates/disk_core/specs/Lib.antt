@@ -1,7 +1,10 @@
 pub mod Calls
 pub mod Choices
 pub mod Contents
+pub mod Counts
+pub mod FileCalls
 pub mod Files
+pub mod Forgetful
 pub mod Fronts
 pub mod Images
 pub mod Memory
@@ -9,4 +12,5 @@ pub mod Moments
 pub mod Pending
 pub mod Replay
 pub mod SeenImages
+pub mod Tallies
 pub mod Untold

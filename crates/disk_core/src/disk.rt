@@ -4,6 +4,7 @@ ghost use Rattle.disk_core.specs.declared.disk.FileNo.{FileNo};
 ghost use Rattle.office_base.specs.Faults.{HasCause};
 ghost use Rattle.disk_core.specs.Files.{State, IsImage, file_in, seen_in, put, Wrote, Shortened, Synced, Unsynced};
 ghost use Rattle.disk_core.specs.Calls.{Elapses};
+ghost use Rattle.disk_core.specs.Tallies.{Tally, IsWritten, IsSynced};
 
 use office_base::Failed;
 use std::snapshot::Snapshot;
@@ -26,10 +27,15 @@ pub enum FileNo {
 /// written since then hold any bytes, as do all bytes past the synced length; the others are as they were synced.
 ///
 /// The count of faults never falls. A call fails where, and only where, it rises; at the greatest `u64` a call that
-/// fails leaves it. A call that failed may have happened in part, as its docstring says. Where `honest` is false only
-/// the count is told.
+/// fails leaves it. A call that failed may have happened in part, as its docstring says.
+///
+/// Every disk tells its count of faults, and its tally: how often it was to be written or cut, and how often it was
+/// synced. Contents and lengths are told by a disk that `tells`; what a write and a sync leave, by one that is `honest`.
 pub trait Disk {
-    /// Whether it tells what it holds. Where it does not, nothing is said of contents.
+    /// Whether lengths and reads are those of its state.
+    ghost tells: { Bool };
+
+    /// Whether it also keeps what it synced.
     ghost honest: { Bool };
 
     /// Its files now.
@@ -44,14 +50,18 @@ pub trait Disk {
     /// How often it has failed.
     ghost fault_count: { Self → ℕ };
 
+    /// What it was asked to write and to sync.
+    ghost tally: { Self → Tally };
+
     /// Tells the length of a file, in bytes.
     ///
     /// # Errors
     ///
     /// `Failed`: the disk did not do the call. The files are as they were.
     fn length(&mut self, file: FileNo) -> Result<u64, Failed>
-        ensures length { IsTrue honest → IfOk result (λ n. n ≡ length (seen_in file (state self.old))) }
-        ensures state { IsTrue honest → state self.new ≡ state self.old }
+        ensures length { IsTrue tells → IfOk result (λ n. n ≡ length (seen_in file (state self.old))) }
+        ensures state { IsTrue tells → state self.new ≡ state self.old }
+        ensures tally { tally self.new ≡ tally self.old }
         ensures time { Elapses state moment had_since self.old self.new }
         ensures cause { HasCause (fault_count self.old) (fault_count self.new) result }
         ensures quiet { OnOk result (fault_count self.new ≡ fault_count self.old) };
@@ -62,10 +72,11 @@ pub trait Disk {
     ///
     /// `Failed`: the disk did not do the call. The files are as they were; the room may hold anything.
     fn read_at(&mut self, file: FileNo, at: u64, room: &mut [u8]) -> Result<(), Failed>
-        requires { IsTrue honest → at + length room.old ≤ length (seen_in file (state self.old)) }
-        ensures bytes { IsTrue honest → OnOk result (room.new
+        requires { IsTrue tells → at + length room.old ≤ length (seen_in file (state self.old)) }
+        ensures bytes { IsTrue tells → OnOk result (room.new
             ≡ take (length room.old) (drop at (seen_in file (state self.old)))) }
-        ensures state { IsTrue honest → state self.new ≡ state self.old }
+        ensures state { IsTrue tells → state self.new ≡ state self.old }
+        ensures tally { tally self.new ≡ tally self.old }
         ensures time { Elapses state moment had_since self.old self.new }
         ensures cause { HasCause (fault_count self.old) (fault_count self.new) result }
         ensures quiet { OnOk result (fault_count self.new ≡ fault_count self.old) };
@@ -83,6 +94,7 @@ pub trait Disk {
         ensures done { IsTrue honest → OnOk result (seen_in file (state self.new)
             ≡ put at bytes.now (seen_in file (state self.old))) }
         ensures state { IsTrue honest → Wrote file at (length bytes.now) (state self.old) (state self.new) }
+        ensures tally { IsWritten file (tally self.old) (tally self.new) }
         ensures time { Elapses state moment had_since self.old self.new }
         ensures cause { HasCause (fault_count self.old) (fault_count self.new) result }
         ensures quiet { OnOk result (fault_count self.new ≡ fault_count self.old) };
@@ -99,6 +111,7 @@ pub trait Disk {
         ensures done { IsTrue honest → OnOk result (seen_in file (state self.new)
             ≡ take to (seen_in file (state self.old))) }
         ensures state { IsTrue honest → Shortened file to (state self.old) (state self.new) }
+        ensures tally { IsWritten file (tally self.old) (tally self.new) }
         ensures time { Elapses state moment had_since self.old self.new }
         ensures cause { HasCause (fault_count self.old) (fault_count self.new) result }
         ensures quiet { OnOk result (fault_count self.new ≡ fault_count self.old) };
@@ -111,6 +124,10 @@ pub trait Disk {
     fn sync(&mut self, file: FileNo) -> Result<(), Failed>
         ensures done { IsTrue honest → OnOk result (Synced file (state self.old) (state self.new)) }
         ensures state { IsTrue honest → OnErr result (Unsynced file (state self.old) (state self.new)) }
+        ensures reads { IsTrue tells → OnOk result ((other : FileNo)
+            → seen_in other (state self.new) ≡ seen_in other (state self.old)) }
+        ensures synced { OnOk result (IsSynced file (tally self.old) (tally self.new)) }
+        ensures unsynced { OnErr result (tally self.new ≡ tally self.old) }
         ensures time { Elapses state moment had_since self.old self.new }
         ensures cause { HasCause (fault_count self.old) (fault_count self.new) result }
         ensures quiet { OnOk result (fault_count self.new ≡ fault_count self.old) };
@@ -144,7 +161,10 @@ pub trait Disk {
     ghost reads_image: { IsTrue honest → (disk : Self) (file : FileNo)
         → IsImage (file_in file (state disk)) (seen_in file (state disk)) };
 
+    /// A disk that keeps what it synced tells what it holds.
+    ghost honest_tells: { IsTrue honest → IsTrue tells };
+
     /// It holds bytes.
-    ghost holds_bytes: { IsTrue honest → (disk : Self) (file : FileNo) (i : ℕ)
+    ghost holds_bytes: { IsTrue tells → (disk : Self) (file : FileNo) (i : ℕ)
         → get_or (seen_in file (state disk)) i 0 < 256 };
 }

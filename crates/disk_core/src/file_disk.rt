@@ -1,34 +1,88 @@
-// Three real files. Nothing is told of what they hold.
-ghost use Rattle.std.specs.Prelude.{◌≡◌, false, refl, OnOk};
+// Three files. Nothing is told of what they hold.
+ghost use Rattle.std.specs.Prelude.{◌≡◌, false, length, refl, OnOk, OnErr};
 ghost use Rattle.office_base.specs.Faults.{HasCause};
+ghost use Rattle.disk_core.specs.Calls.{Elapses};
+ghost use Rattle.disk_core.specs.Tallies.{IsWritten, IsSynced};
+ghost use Rattle.disk_core.specs.FileCalls.{is_ok, asks_length, reads, writes, cuts, syncs};
 ghost use Rattle.disk_core.specs.Files.{empty_disk};
-ghost use Rattle.disk_core.specs.Untold.{untold_image, untold_bytes, file_faults};
+ghost use Rattle.disk_core.specs.Untold.{untold_image, untold_bytes, file_faults, file_tally, opened, AsksOne, Asks};
 
+use crate::disk_file::DiskFile;
+use crate::tally::Counts;
 use crate::{Disk, FileNo};
 use office_base::Failed;
-use std::fs::{File, OpenFile};
 use std::io;
-use std::os::unix::fs::FileExt;
 use std::snapshot::Snapshot;
 
 // What most file systems give a file at a time, in bytes.
 const BLOCK: u64 = 4_096;
 
-/// Three files of the operating system. Of what they hold nothing is promised.
+/// Three files, as of the operating system. Of what they hold nothing is promised; each call of the disk is that call of
+/// its file, and fails where that one does.
 ///
 /// A sync makes a file's bytes and its length durable, and no other attribute of it. A file that could not be
 /// opened is `None`: each call on it fails and is counted.
 #[derive(Drop)]
-pub struct FileDisk {
-    journal: Option<File>,
-    slot0: Option<File>,
-    slot1: Option<File>,
+pub struct FileDisk<F: DiskFile> {
+    journal: Option<F>,
+    slot0: Option<F>,
+    slot1: Option<F>,
     faults: u64,
+    counts: Counts,
 }
 
-impl FileDisk {
-    /// Makes a disk of these files, which are open for reading and writing, without a fault so far.
-    pub fn new(journal: Option<File>, slot0: Option<File>, slot1: Option<File>) -> Self
+fn not_open() -> io::Error {
+    io::Error::from(io::ErrorKind::NotFound)
+}
+
+fn ask_length<F: DiskFile>(file: &mut Option<F>) -> io::Result<u64>
+    ensures { AsksOne F.DiskFile asks_length (is_ok result) file.old file.new }
+{
+    match file {
+        Some(file) => file.length(),
+        None => Err(not_open()),
+    }
+}
+
+fn ask_read<F: DiskFile>(file: &mut Option<F>, at: u64, room: &mut [u8]) -> io::Result<()>
+    ensures { AsksOne F.DiskFile (reads at (length room.old)) (is_ok result) file.old file.new }
+{
+    match file {
+        Some(file) => file.read(at, room),
+        None => Err(not_open()),
+    }
+}
+
+fn ask_write<F: DiskFile>(file: &mut Option<F>, at: u64, bytes: &[u8]) -> io::Result<()>
+    ensures { AsksOne F.DiskFile (writes at bytes.now) (is_ok result) file.old file.new }
+{
+    match file {
+        Some(file) => file.write(at, bytes),
+        None => Err(not_open()),
+    }
+}
+
+fn ask_cut<F: DiskFile>(file: &mut Option<F>, to: u64) -> io::Result<()>
+    ensures { AsksOne F.DiskFile (cuts to) (is_ok result) file.old file.new }
+{
+    match file {
+        Some(file) => file.cut(to),
+        None => Err(not_open()),
+    }
+}
+
+fn ask_sync<F: DiskFile>(file: &mut Option<F>) -> io::Result<()>
+    ensures { AsksOne F.DiskFile syncs (is_ok result) file.old file.new }
+{
+    match file {
+        Some(file) => file.sync(),
+        None => Err(not_open()),
+    }
+}
+
+impl<F: DiskFile> FileDisk<F> {
+    /// Makes a disk of these files, without a fault so far.
+    pub fn new(journal: Option<F>, slot0: Option<F>, slot1: Option<F>) -> Self
         ensures { file_faults result ≡ 0 }
     {
         FileDisk {
@@ -36,19 +90,69 @@ impl FileDisk {
             slot0,
             slot1,
             faults: 0,
+            counts: Counts::new(),
         }
     }
 
-    // The file, where it was opened.
-    fn open(&self, file: FileNo) -> io::Result<&File> {
-        let found = match file {
-            FileNo::Journal => &self.journal,
-            FileNo::Slot0 => &self.slot0,
-            FileNo::Slot1 => &self.slot1,
-        };
-        match found {
-            Some(file) => Ok(file),
-            None => Err(io::Error::from(io::ErrorKind::NotFound)),
+    fn length_of(&mut self, file: FileNo) -> io::Result<u64>
+        ensures asks { Asks F.DiskFile file asks_length (is_ok result) (opened self.old) (opened self.new) }
+        ensures faults { self.new.faults ≡ self.old.faults }
+        ensures counts { self.new.counts ≡ self.old.counts }
+    {
+        match file {
+            FileNo::Journal => ask_length(&mut self.journal),
+            FileNo::Slot0 => ask_length(&mut self.slot0),
+            FileNo::Slot1 => ask_length(&mut self.slot1),
+        }
+    }
+
+    fn read_of(&mut self, file: FileNo, at: u64, room: &mut [u8]) -> io::Result<()>
+        ensures asks { Asks F.DiskFile file (reads at (length room.old)) (is_ok result) (opened self.old)
+            (opened self.new) }
+        ensures faults { self.new.faults ≡ self.old.faults }
+        ensures counts { self.new.counts ≡ self.old.counts }
+    {
+        match file {
+            FileNo::Journal => ask_read(&mut self.journal, at, room),
+            FileNo::Slot0 => ask_read(&mut self.slot0, at, room),
+            FileNo::Slot1 => ask_read(&mut self.slot1, at, room),
+        }
+    }
+
+    fn write_of(&mut self, file: FileNo, at: u64, bytes: &[u8]) -> io::Result<()>
+        ensures asks { Asks F.DiskFile file (writes at bytes.now) (is_ok result) (opened self.old)
+            (opened self.new) }
+        ensures faults { self.new.faults ≡ self.old.faults }
+        ensures counts { self.new.counts ≡ self.old.counts }
+    {
+        match file {
+            FileNo::Journal => ask_write(&mut self.journal, at, bytes),
+            FileNo::Slot0 => ask_write(&mut self.slot0, at, bytes),
+            FileNo::Slot1 => ask_write(&mut self.slot1, at, bytes),
+        }
+    }
+
+    fn cut_of(&mut self, file: FileNo, to: u64) -> io::Result<()>
+        ensures asks { Asks F.DiskFile file (cuts to) (is_ok result) (opened self.old) (opened self.new) }
+        ensures faults { self.new.faults ≡ self.old.faults }
+        ensures counts { self.new.counts ≡ self.old.counts }
+    {
+        match file {
+            FileNo::Journal => ask_cut(&mut self.journal, to),
+            FileNo::Slot0 => ask_cut(&mut self.slot0, to),
+            FileNo::Slot1 => ask_cut(&mut self.slot1, to),
+        }
+    }
+
+    fn sync_of(&mut self, file: FileNo) -> io::Result<()>
+        ensures asks { Asks F.DiskFile file syncs (is_ok result) (opened self.old) (opened self.new) }
+        ensures faults { self.new.faults ≡ self.old.faults }
+        ensures counts { self.new.counts ≡ self.old.counts }
+    {
+        match file {
+            FileNo::Journal => ask_sync(&mut self.journal),
+            FileNo::Slot0 => ask_sync(&mut self.slot0),
+            FileNo::Slot1 => ask_sync(&mut self.slot1),
         }
     }
 
@@ -56,6 +160,9 @@ impl FileDisk {
     fn told<T: Drop>(&mut self, answer: io::Result<T>) -> Result<T, Failed>
         ensures cause { HasCause self.old.faults self.new.faults result }
         ensures quiet { OnOk result (self.new.faults ≡ self.old.faults) }
+        ensures same { is_ok result ≡ is_ok answer }
+        ensures files { opened self.new ≡ opened self.old }
+        ensures counts { self.new.counts ≡ self.old.counts }
     {
         match answer {
             Ok(value) => Ok(value),
@@ -67,7 +174,10 @@ impl FileDisk {
     }
 }
 
-impl Disk for FileDisk {
+#[tactic(auto, using(crate::proofs::Asked::asked_then))]
+impl<F: DiskFile> Disk for FileDisk<F> {
+    ghost tells = { false };
+
     ghost honest = { false };
 
     ghost state = { λ _. empty_disk };
@@ -76,7 +186,9 @@ impl Disk for FileDisk {
 
     ghost had_since = { λ _ _ s. s ≡ empty_disk };
 
-    ghost fault_count = { λ d. d.faults };
+    ghost fault_count = { file_faults };
+
+    ghost tally = { file_tally };
 
     ghost counts_now = { λ d t le. refl };
 
@@ -86,49 +198,68 @@ impl Disk for FileDisk {
 
     ghost reads_image = { untold_image };
 
+    ghost honest_tells = { λ is. is };
+
     ghost holds_bytes = { untold_bytes };
 
-    fn length(&mut self, file: FileNo) -> Result<u64, Failed> {
-        let result = match self.open(file) {
-            Ok(file) => file.metadata(),
-            Err(e) => Err(e),
-        };
-        match self.told(result) {
-            Ok(known) => Ok(known.len()),
-            Err(e) => Err(e),
-        }
+    fn length(&mut self, file: FileNo) -> Result<u64, Failed>
+        ensures asks { Asks F.DiskFile file asks_length (is_ok result) (opened self.old) (opened self.new) }
+        ensures tally { file_tally self.new ≡ file_tally self.old }
+        ensures time { Elapses (λ _. empty_disk) (λ _. 0) (λ _ _ s. s ≡ empty_disk) self.old self.new }
+        ensures cause { HasCause (file_faults self.old) (file_faults self.new) result }
+        ensures quiet { OnOk result (file_faults self.new ≡ file_faults self.old) }
+    {
+        let answer = self.length_of(file);
+        self.told(answer)
     }
 
-    fn read_at(&mut self, file: FileNo, at: u64, room: &mut [u8]) -> Result<(), Failed> {
-        let result = match self.open(file) {
-            Ok(file) => file.read_exact_at(room, at),
-            Err(e) => Err(e),
-        };
-        self.told(result)
+    fn read_at(&mut self, file: FileNo, at: u64, room: &mut [u8]) -> Result<(), Failed>
+        ensures asks { Asks F.DiskFile file (reads at (length room.old)) (is_ok result) (opened self.old) (opened self.new) }
+        ensures tally { file_tally self.new ≡ file_tally self.old }
+        ensures time { Elapses (λ _. empty_disk) (λ _. 0) (λ _ _ s. s ≡ empty_disk) self.old self.new }
+        ensures cause { HasCause (file_faults self.old) (file_faults self.new) result }
+        ensures quiet { OnOk result (file_faults self.new ≡ file_faults self.old) }
+    {
+        let answer = self.read_of(file, at, room);
+        self.told(answer)
     }
 
-    fn write_at(&mut self, file: FileNo, at: u64, bytes: &[u8]) -> Result<(), Failed> {
-        let result = match self.open(file) {
-            Ok(file) => file.write_all_at(bytes, at),
-            Err(e) => Err(e),
-        };
-        self.told(result)
+    fn write_at(&mut self, file: FileNo, at: u64, bytes: &[u8]) -> Result<(), Failed>
+        ensures asks { Asks F.DiskFile file (writes at bytes.now) (is_ok result) (opened self.old) (opened self.new) }
+        ensures tally { IsWritten file (file_tally self.old) (file_tally self.new) }
+        ensures time { Elapses (λ _. empty_disk) (λ _. 0) (λ _ _ s. s ≡ empty_disk) self.old self.new }
+        ensures cause { HasCause (file_faults self.old) (file_faults self.new) result }
+        ensures quiet { OnOk result (file_faults self.new ≡ file_faults self.old) }
+    {
+        self.counts.written(file);
+        let answer = self.write_of(file, at, bytes);
+        self.told(answer)
     }
 
-    fn cut(&mut self, file: FileNo, to: u64) -> Result<(), Failed> {
-        let result = match self.open(file) {
-            Ok(file) => file.set_len(to),
-            Err(e) => Err(e),
-        };
-        self.told(result)
+    fn cut(&mut self, file: FileNo, to: u64) -> Result<(), Failed>
+        ensures asks { Asks F.DiskFile file (cuts to) (is_ok result) (opened self.old) (opened self.new) }
+        ensures tally { IsWritten file (file_tally self.old) (file_tally self.new) }
+        ensures time { Elapses (λ _. empty_disk) (λ _. 0) (λ _ _ s. s ≡ empty_disk) self.old self.new }
+        ensures cause { HasCause (file_faults self.old) (file_faults self.new) result }
+        ensures quiet { OnOk result (file_faults self.new ≡ file_faults self.old) }
+    {
+        self.counts.written(file);
+        let answer = self.cut_of(file, to);
+        self.told(answer)
     }
 
-    fn sync(&mut self, file: FileNo) -> Result<(), Failed> {
-        let result = match self.open(file) {
-            Ok(file) => file.sync_data(),
-            Err(e) => Err(e),
-        };
-        self.told(result)
+    fn sync(&mut self, file: FileNo) -> Result<(), Failed>
+        ensures asks { Asks F.DiskFile file syncs (is_ok result) (opened self.old) (opened self.new) }
+        ensures synced { OnOk result (IsSynced file (file_tally self.old) (file_tally self.new)) }
+        ensures unsynced { OnErr result (file_tally self.new ≡ file_tally self.old) }
+        ensures time { Elapses (λ _. empty_disk) (λ _. 0) (λ _ _ s. s ≡ empty_disk) self.old self.new }
+        ensures cause { HasCause (file_faults self.old) (file_faults self.new) result }
+        ensures quiet { OnOk result (file_faults self.new ≡ file_faults self.old) }
+    {
+        let answer = self.sync_of(file);
+        self.told(answer)?;
+        self.counts.synced(file);
+        Ok(())
     }
 
     fn faults(&self) -> u64 {

@@ -8,11 +8,13 @@ ghost use Rattle.disk_core.specs.Pending.{AreImages};
 ghost use Rattle.disk_core.specs.Choices.{GivesEach};
 ghost use Rattle.office_base.specs.Faults.{Rose, HasCause};
 ghost use Rattle.disk_core.specs.declared.memory.DiskCall.TheVariants.{Other, Cut, Sync};
+ghost use Rattle.disk_core.specs.Tallies.{IsWritten, IsSynced};
 ghost use Rattle.disk_core.specs.Replay.{IsUntold, KeepsWrite, after, HadSince, counts_now, only_now, since_earlier};
 ghost use Rattle.disk_core.specs.SeenImages.{own, own_image, bytes_told};
 
 use crate::contents::Contents;
 use crate::pending::Pending;
+use crate::tally::Counts;
 use crate::{Disk, FileNo};
 use office_base::{Failed, NoMemory};
 use std::alloc::{AllocError, AllocFailed, Global};
@@ -45,6 +47,7 @@ pub struct MemoryDisk {
     calls: Vec<DiskCall>,
     failing: Vec<u64>,
     faults: u64,
+    counts: Counts,
     block: u64,
     ghost within: { block ≤ 4096 },
     ghost same: { bytes_of contents ≡ seens (after calls.items) },
@@ -95,6 +98,7 @@ impl MemoryDisk {
             calls: Vec::new(alloc),
             failing,
             faults: 0,
+            counts: Counts::new(),
             block,
         }
     }
@@ -122,6 +126,13 @@ impl MemoryDisk {
         }
     }
 
+    // The length of a file, in bytes. It is no call.
+    pub(crate) fn size(&self, file: FileNo) -> u64
+        ensures { result ≡ length (seen_in file (memory_state self.now)) }
+    {
+        self.contents.file(file).len() as u64
+    }
+
     // Whether the next call is one that is to fail.
     fn next_fails(&self) -> bool
         ensures { Decides result (Contains self.now.failing.items (length self.now.calls.items + 1)) }
@@ -131,6 +142,7 @@ impl MemoryDisk {
 
     // Counts a fault.
     fn fail(&mut self) -> Failed
+        ensures counts { self.new.counts ≡ self.old.counts }
         ensures calls { self.new.calls.items ≡ self.old.calls.items }
         ensures failing { self.new.failing.items ≡ self.old.failing.items }
         ensures later { self.old.faults ≤ self.new.faults }
@@ -142,6 +154,7 @@ impl MemoryDisk {
 
     // Makes a call that changes nothing; it fails where it is to.
     fn pass(&mut self) -> Result<(), Failed>
+        ensures counts { self.new.counts ≡ self.old.counts }
         ensures ok { OnOk result ((self.new.calls.items ≡ self.old.calls.items ++ Other ∷ [])
             × (self.new.faults ≡ self.old.faults)) }
         ensures err { OnErr result (IsUntold self.old.calls.items self.new.calls.items) }
@@ -159,6 +172,7 @@ impl MemoryDisk {
     // Writes as a whole and keeps the call, or changes nothing.
     fn write(&mut self, file: FileNo, at: u64, bytes: &[u8]) -> Result<(), AllocError>
         requires { at ≤ length (seen_in file (after self.old.calls.items)) }
+        ensures counts { self.new.counts ≡ self.old.counts }
         ensures ok { OnOk result (KeepsWrite file at bytes.now self.old.calls.items self.new.calls.items) }
         ensures err { OnErr result (self.new.calls.items ≡ self.old.calls.items) }
         ensures failing { self.new.failing.items ≡ self.old.failing.items }
@@ -178,6 +192,7 @@ impl MemoryDisk {
 
     // Keeps a call that changes nothing, or changes nothing itself.
     fn note(&mut self) -> Result<(), AllocError>
+        ensures counts { self.new.counts ≡ self.old.counts }
         ensures ok { OnOk result (self.new.calls.items ≡ self.old.calls.items ++ Other ∷ []) }
         ensures err { OnErr result (self.new.calls.items ≡ self.old.calls.items) }
         ensures failing { self.new.failing.items ≡ self.old.failing.items }
@@ -190,6 +205,7 @@ impl MemoryDisk {
 
     // Keeps a sync, or changes nothing.
     fn settle(&mut self, file: FileNo) -> Result<(), AllocError>
+        ensures counts { self.new.counts ≡ self.old.counts }
         ensures ok { OnOk result (self.new.calls.items ≡ self.old.calls.items ++ Sync file ∷ []) }
         ensures err { OnErr result (self.new.calls.items ≡ self.old.calls.items) }
         ensures failing { self.new.failing.items ≡ self.old.failing.items }
@@ -203,6 +219,7 @@ impl MemoryDisk {
     // Cuts and keeps the call, or changes nothing.
     fn shorten(&mut self, file: FileNo, to: u64) -> Result<(), AllocError>
         requires { to ≤ length (seen_in file (after self.old.calls.items)) }
+        ensures counts { self.new.counts ≡ self.old.counts }
         ensures ok { OnOk result (self.new.calls.items ≡ self.old.calls.items ++ Cut file to ∷ []) }
         ensures err { OnErr result (self.new.calls.items ≡ self.old.calls.items) }
         ensures failing { self.new.failing.items ≡ self.old.failing.items }
@@ -218,7 +235,9 @@ impl MemoryDisk {
 
 #[tactic(auto, using(crate::proofs::Replay::facts))]
 impl Disk for MemoryDisk {
-    ghost use Rattle.disk_core.specs.Memory.{IsCall, IsCounted, memory_state};
+    ghost use Rattle.disk_core.specs.Memory.{IsCall, IsCounted, memory_state, memory_tally};
+
+    ghost tells = { true };
 
     ghost honest = { true };
 
@@ -230,6 +249,8 @@ impl Disk for MemoryDisk {
 
     ghost fault_count = { λ m. m.faults };
 
+    ghost tally = { memory_tally };
+
     ghost counts_now = { λ m t le. counts_now m.calls.items t le };
 
     ghost only_now = { λ m s had. only_now m.calls.items s had };
@@ -238,10 +259,13 @@ impl Disk for MemoryDisk {
 
     ghost reads_image = { λ told m file. own_image file (after m.calls.items) (own m.calls.items) };
 
+    ghost honest_tells = { λ told. told };
+
     ghost holds_bytes = { λ told m file. bytes_told file (bytes_of m.contents) (after m.calls.items) m.same m.small };
 
     fn length(&mut self, file: FileNo) -> Result<u64, Failed>
         ensures call { IsCall self.old self.new result }
+        ensures tally { memory_tally self.new ≡ memory_tally self.old }
         ensures length { IfOk result (λ n. n ≡ length (seen_in file (memory_state self.old))) }
         ensures state { memory_state self.new ≡ memory_state self.old }
     {
@@ -252,6 +276,7 @@ impl Disk for MemoryDisk {
     fn read_at(&mut self, file: FileNo, at: u64, room: &mut [u8]) -> Result<(), Failed>
         requires { at + length room.old ≤ length (seen_in file (memory_state self.old)) }
         ensures call { IsCall self.old self.new result }
+        ensures tally { memory_tally self.new ≡ memory_tally self.old }
         ensures bytes { OnOk result (room.new
             ≡ take (length room.old) (drop at (seen_in file (memory_state self.old)))) }
         ensures state { memory_state self.new ≡ memory_state self.old }
@@ -266,10 +291,12 @@ impl Disk for MemoryDisk {
     fn write_at(&mut self, file: FileNo, at: u64, bytes: &[u8]) -> Result<(), Failed>
         requires { at ≤ length (seen_in file (memory_state self.old)) }
         ensures call { IsCall self.old self.new result }
+        ensures tally { IsWritten file (memory_tally self.old) (memory_tally self.new) }
         ensures done { IsCounted self.old self.new → seen_in file (memory_state self.new)
             ≡ put at bytes.now (seen_in file (memory_state self.old)) }
         ensures state { Wrote file at (length bytes.now) (memory_state self.old) (memory_state self.new) }
     {
+        self.counts.written(file);
         let fails = self.next_fails();
         match self.write(file, at, bytes) {
             Err(_) => Err(self.fail()),
@@ -281,10 +308,12 @@ impl Disk for MemoryDisk {
     fn cut(&mut self, file: FileNo, to: u64) -> Result<(), Failed>
         requires { to ≤ length (seen_in file (memory_state self.old)) }
         ensures call { IsCall self.old self.new result }
+        ensures tally { IsWritten file (memory_tally self.old) (memory_tally self.new) }
         ensures done { IsCounted self.old self.new → seen_in file (memory_state self.new)
             ≡ take to (seen_in file (memory_state self.old)) }
         ensures state { Shortened file to (memory_state self.old) (memory_state self.new) }
     {
+        self.counts.written(file);
         let fails = self.next_fails();
         match self.shorten(file, to) {
             Err(_) => Err(self.fail()),
@@ -295,6 +324,10 @@ impl Disk for MemoryDisk {
 
     fn sync(&mut self, file: FileNo) -> Result<(), Failed>
         ensures call { IsCall self.old self.new result }
+        ensures synced { OnOk result (IsSynced file (memory_tally self.old) (memory_tally self.new)) }
+        ensures unsynced { OnErr result (memory_tally self.new ≡ memory_tally self.old) }
+        ensures reads { OnOk result ((other : FileNo)
+            → seen_in other (memory_state self.new) ≡ seen_in other (memory_state self.old)) }
         ensures done { OnOk result (Synced file (memory_state self.old) (memory_state self.new)) }
         ensures state { OnErr result (memory_state self.new ≡ memory_state self.old) }
     {
@@ -306,7 +339,10 @@ impl Disk for MemoryDisk {
         }
         match self.settle(file) {
             Err(_) => Err(self.fail()),
-            Ok(()) => Ok(()),
+            Ok(()) => {
+                self.counts.synced(file);
+                Ok(())
+            }
         }
     }
 
