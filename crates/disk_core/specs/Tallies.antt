@@ -1,5 +1,5 @@
 -- What a disk was asked to write and to sync.
-use Rattle.std.specs.Prelude.{◌≡◌, ℕ, Bool, true, false}
+use Rattle.std.specs.Prelude.{◌≡◌, ◌+◌, ◌-◌, ◌^◌, ◌≤◌, min, ℕ, Bool, true, false}
 use Rattle.office_base.specs.Faults.{Rose}
 use Rattle.disk_core.specs.declared.disk.FileNo.{FileNo}
 use Rattle.disk_core.specs.declared.disk.FileNo.TheVariants.{Journal, Slot0, Slot1}
@@ -26,3 +26,11 @@ IsWritten file old new = (n : ℕ) × Rose old.writes n × (new ≡ record (mark
 -- this file was synced once more
 abbrev pub IsSynced : FileNo → Tally → Tally → Type 0
 IsSynced file old new = (n : ℕ) × Rose old.syncs n × (new ≡ record (marked file false old) { syncs = n })
+
+-- Two syncs or more were done, and no write or cut of the journal came after the last; of the slots, none that was not
+-- to be synced before.
+pub record IsDurable (old new : Tally) : Type 0 where
+  pub syncs : min (old.syncs + 2) (2 ^ 64 - 1) ≤ new.syncs
+  pub journal : new.journal ≡ false
+  pub slot0 : new.slot0 ≡ old.slot0
+  pub slot1 : new.slot1 ≡ old.slot1

@@ -2,7 +2,7 @@
 ghost use Rattle.std.specs.Prelude.{◌≡◌, ◌+◌, ◌<◌, ◌≤◌, ℕ, get_or, Bool, IsTrue, length, take, drop, IfOk, OnOk, OnErr};
 ghost use Rattle.disk_core.specs.declared.disk.FileNo.{FileNo};
 ghost use Rattle.office_base.specs.Faults.{HasCause};
-ghost use Rattle.disk_core.specs.Files.{State, IsImage, file_in, seen_in, put, Wrote, Shortened, Synced, Unsynced};
+ghost use Rattle.disk_core.specs.Files.{State, IsImage, file_in, seen_in, put, SameReads, Wrote, Shortened, Synced, Unsynced};
 ghost use Rattle.disk_core.specs.Calls.{Elapses};
 ghost use Rattle.disk_core.specs.Tallies.{Tally, IsWritten, IsSynced};
 
@@ -124,8 +124,7 @@ pub trait Disk {
     fn sync(&mut self, file: FileNo) -> Result<(), Failed>
         ensures done { IsTrue honest → OnOk result (Synced file (state self.old) (state self.new)) }
         ensures state { IsTrue honest → OnErr result (Unsynced file (state self.old) (state self.new)) }
-        ensures reads { IsTrue tells → OnOk result ((other : FileNo)
-            → seen_in other (state self.new) ≡ seen_in other (state self.old)) }
+        ensures reads { IsTrue tells → OnOk result (SameReads (state self.old) (state self.new)) }
         ensures synced { OnOk result (IsSynced file (tally self.old) (tally self.new)) }
         ensures unsynced { OnErr result (tally self.new ≡ tally self.old) }
         ensures time { Elapses state moment had_since self.old self.new }

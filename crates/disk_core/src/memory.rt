@@ -2,7 +2,7 @@
 ghost use Rattle.std.specs.Prelude.{◌≡◌, ◌+◌, ◌≤◌, ◌++◌, [], ◌∷◌, true, length, take, drop, IfOk, OnOk, OnErr};
 ghost use Rattle.std.specs.Bool.{Decides};
 ghost use Rattle.std.specs.List.{Contains};
-ghost use Rattle.disk_core.specs.Files.{file_in, seen_in, put, Wrote, Shortened, Synced};
+ghost use Rattle.disk_core.specs.Files.{file_in, seen_in, put, SameReads, Wrote, Shortened, Synced};
 ghost use Rattle.disk_core.specs.Contents.{AreBytes, bytes_of, seens};
 ghost use Rattle.disk_core.specs.Pending.{AreImages};
 ghost use Rattle.disk_core.specs.Choices.{GivesEach};
@@ -326,8 +326,7 @@ impl Disk for MemoryDisk {
         ensures call { IsCall self.old self.new result }
         ensures synced { OnOk result (IsSynced file (memory_tally self.old) (memory_tally self.new)) }
         ensures unsynced { OnErr result (memory_tally self.new ≡ memory_tally self.old) }
-        ensures reads { OnOk result ((other : FileNo)
-            → seen_in other (memory_state self.new) ≡ seen_in other (memory_state self.old)) }
+        ensures reads { OnOk result (SameReads (memory_state self.old) (memory_state self.new)) }
         ensures done { OnOk result (Synced file (memory_state self.old) (memory_state self.new)) }
         ensures state { OnErr result (memory_state self.new ≡ memory_state self.old) }
     {
