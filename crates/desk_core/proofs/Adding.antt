@@ -20,6 +20,7 @@ use Rattle.office_machine.specs.Once.{OfficeView, StandsFor, DoesOnce}
 use Rattle.entry_codec.specs.Spelling.{EntryFits, spelling}
 use Rattle.meter_journal.specs.History.{end_gate, IsAtRest}
 use Rattle.meter_journal.proofs.History.{each-push, end_gate-push}
+use Rattle.disk_core.specs.Tallies.{IsDurable}
 use Rattle.desk_core.specs.declared.fault.DeskFault.{DeskFault}
 use Rattle.desk_core.specs.declared.fault.DeskFault.TheVariants as faults
 use Rattle.desk_core.specs.Answers.{Answer}
@@ -152,7 +153,8 @@ module _ {D C : Type 0} (d : disks.Ghosts D) where
                     at_rest = λ tells. (adds.2 tells).0;
                   };
                   run = λ tells. subst (λ (z : D). Run z new.disk) same (adds.2 tells).1;
-                  quiet = adds.3 ∙ ap d.fault_count same;
+                  durable = subst (λ (z : D). IsDurable (d.tally z) (d.tally new.disk)) same adds.3;
+                  quiet = adds.4 ∙ ap d.fault_count same;
                 },
               );
             }

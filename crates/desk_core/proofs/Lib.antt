@@ -22,5 +22,6 @@ pub mod Serving
 pub mod Standing
 pub mod Staying
 pub mod Submitted
+mod Synced
 pub mod Told
 pub mod Turns

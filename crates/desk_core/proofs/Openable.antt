@@ -176,8 +176,8 @@ module _ (one_value : (bytes : List ℕ) (a b : SnapshotRecord) → Spells bytes
 
 -- ---- a desk that read its journal on
 
-pub reads_ready : {D C : Type 0} (d : disks.Ghosts D) (disk : D) (desk : DeskView D C) → ReadsOn d disk desk → IsReady d desk
-reads_ready d disk desk reads = record {
+pub reads_ready : {D C : Type 0} (d : disks.Ghosts D) (honest_tells : IsTrue d.honest → IsTrue d.tells) (disk : D) (desk : DeskView D C) → ReadsOn d disk desk → IsReady d desk
+reads_ready d honest_tells disk desk reads = record {
   tail = record { office = reads.shown.0; head = reads.head; entries = reads.entries };
   holds = record {
     office = reads.stands reads.shown.0 reads.shown.1;
@@ -185,12 +185,12 @@ reads_ready d disk desk reads = record {
     each = reads.each;
     small = reads.small;
     limit = reads.limit_low;
-    at_rest = λ tells. record { bytes = (d.state disk).journal.seen; on_disk = reads.on_disk tells; history = reads.tail tells; end = reads.end };
+    at_rest = λ tells. record { bytes = (d.state disk).journal.seen; on_disk = reads.on_disk tells; history = reads.tail (honest_tells tells); end = reads.end };
   };
   takes = reads.takes reads.shown.0 reads.shown.1;
   starts = λ tells.
       let narrow = (reads.any_moment tells).now in
-      let made = front_made (d.state disk).journal.seen (place_of reads.loaded) (reads.made tells) reads.low in
+      let made = front_made (d.state disk).journal.seen (place_of reads.loaded) (reads.made (honest_tells tells)) reads.low in
       starts_same (d.state disk) (d.state desk.disk) reads.shown.0 reads.head narrow.slot0 narrow.slot1
-      (record { loaded = reads.loaded; gives = reads.gives tells; begins = reads.shown.1; place = reads.place; made = (made.0, reads.front tells ∙ made.1) });
+      (record { loaded = reads.loaded; gives = reads.gives (honest_tells tells); begins = reads.shown.1; place = reads.place; made = (made.0, reads.front (honest_tells tells) ∙ made.1) });
 }

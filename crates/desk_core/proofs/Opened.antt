@@ -5,7 +5,8 @@ use Rattle.disk_core.specs.declared.disk.Disk as disks
 use Rattle.disk_core.specs.declared.disk.FileNo.TheVariants.{Journal}
 use Rattle.disk_core.specs.Files.{State, File, IsImage, synced_file}
 use Rattle.disk_core.specs.Fronts.{Narrower}
-use Rattle.disk_core.specs.Moments.{KeepsTo, Untouched}
+use Rattle.disk_core.specs.Moments.{KeepsTo, OnlyReads, Untouched, WritesNothing}
+use Rattle.disk_core.specs.Tallies.{Tally}
 use Rattle.disk_core.proofs.Laws.{DiskLaws}
 use Rattle.disk_core.proofs.Time.{joined, then_untouched, weakened}
 use Rattle.plain_office.specs.Office.{Office}
@@ -69,7 +70,7 @@ pub other_fails : (fault : OpenFault) (s : State) → (fault ≡ faults.StoreFau
 other_fails fault s (inl is) = subst (λ (f : OpenFault). OpenFailsOn f s) (sym is) tt
 other_fails fault s (inr is) = subst (λ (f : OpenFault). OpenFailsOn f s) (sym is) tt
 
-module _ {D : Type 0} {d : disks.Ghosts D} (disk : D) (first : OfficeView) (from : Option ℕ) (begins : BeginsOn d disk first from) (tells : IsTrue d.honest) where
+module _ {D : Type 0} {d : disks.Ghosts D} (disk : D) (first : OfficeView) (from : Option ℕ) (begins : BeginsOn d disk first from) (tells : IsTrue d.tells) where
   pub replay_fails : (fault : OpenFault) (file : List ℕ) → file ≡ (d.state disk).journal.seen → IsMade file → ReplayFails fault first (from_or_first from) file → OpenFailsOn fault (d.state disk)
   replay_fails faults.NotMade file same made fails = absurd fails
   replay_fails faults.Foreign file same made fails = absurd fails
@@ -92,45 +93,47 @@ low_place (Some p) place is low = omega (arith, is, low)
 low_place None place is low = omega (arith, is)
 
 -- all entries of the journal were read
-pub reads_on : {D C : Type 0} {d : disks.Ghosts D} (disk mid begun : D) (office : DeskView D C) (first : OfficeView) (from : Option ℕ) → BeginsOn d disk first from
-    → HasReplayed d first (from_or_first from) begun office.disk office.gate office.office → office.limit ≤ 2 ^ 45
-    → (IsTrue d.honest → Untouched d disk mid)
-    → (IsTrue d.honest → IsMade (d.state mid).journal.seen × ((d.state begun).journal ≡ synced_file (d.state mid).journal.seen))
-    → (IsTrue d.honest → KeepsTo d mid begun (Narrower (d.state mid))) → (IsTrue d.honest → Untouched d begun office.disk)
-    → d.fault_count office.disk ≡ d.fault_count disk
-    → ReadsOn d disk office
-reads_on {D} {C} {d} disk mid begun office first from begins read small loads begin run untouched quiet = record {
-  loaded = begins.loaded;
-  gives = begins.gives;
-  entries = read.entries;
-  each = read.each;
-  stands = λ start shown. read.stands start (begins.stands start shown);
-  shown = begins.shown;
-  takes = begins.takes;
-  head = read.head;
-  place = read.place_is ∙ begins.place;
-  low = low_place from (place_of begins.loaded) begins.place begins.low;
-  end = read.end;
-  small = read.small;
-  limit_low = small;
-  made = λ tells. subst (λ (s : State). IsMade s.journal.seen) (loads tells).now (begin tells).0;
-  front = λ tells. (rests tells).0 ∙ ap (λ (k : ℕ). take k (d.state disk).journal.seen) begins.place;
-  tail = λ tells. let at_rest = (rests tells).1 in
-      subst (λ (l : List ℕ). HasEntries read.head read.entries l) (ap (λ (f : File). f.seen) (sym at_rest.on_disk ∙ here tells)) at_rest.history;
-  on_disk = here;
-  any_moment = λ tells. then_untouched (narrowed_on disk mid begun (loads tells) (run tells)) (untouched tells);
-  quiet = quiet;
-}
-  where
-    begun_is : IsTrue d.honest → (d.state begun).journal ≡ synced_file (d.state disk).journal.seen
-    begun_is tells = (begin tells).1 ∙ ap (λ (s : State). synced_file s.journal.seen) (loads tells).now
+module _ {D C : Type 0} {d : disks.Ghosts D} (honest_tells : IsTrue d.honest → IsTrue d.tells) (disk mid begun : D) (office : DeskView D C)
+    (loads : OnlyReads d disk mid) (untouched : OnlyReads d begun office.disk) (writes : WritesNothing d mid begun) where
+  pub reads_on : (first : OfficeView) (from : Option ℕ) → BeginsOn d disk first from
+      → HasReplayed d first (from_or_first from) begun office.gate office.office → office.limit ≤ 2 ^ 45
+      → (IsTrue d.tells → IsMade (d.state mid).journal.seen × ((d.state begun).journal.seen ≡ (d.state mid).journal.seen))
+      → (IsTrue d.honest → (d.state begun).journal ≡ synced_file (d.state mid).journal.seen)
+      → (IsTrue d.honest → KeepsTo d mid begun (Narrower (d.state mid)))
+      → d.fault_count office.disk ≡ d.fault_count disk
+      → ReadsOn d disk office
+  reads_on first from begins read small begin synced run quiet = record {
+    loaded = begins.loaded;
+    gives = begins.gives;
+    entries = read.entries;
+    each = read.each;
+    stands = λ start shown. read.stands start (begins.stands start shown);
+    shown = begins.shown;
+    takes = begins.takes;
+    head = read.head;
+    place = read.place_is ∙ begins.place;
+    low = low_place from (place_of begins.loaded) begins.place begins.low;
+    end = read.end;
+    small = read.small;
+    limit_low = small;
+    made = made_is;
+    front = λ tells. (rests tells).0 ∙ ap (λ (k : ℕ). take k (d.state disk).journal.seen) begins.place;
+    tail = λ tells. (rests tells).1;
+    on_disk = λ honest.
+        ap (λ (s : State). s.journal) (untouched.files (honest_tells honest)).now ∙ synced honest
+        ∙ ap (λ (s : State). synced_file s.journal.seen) (loads.files (honest_tells honest)).now;
+    writes = ap (λ (t : Tally). t.writes) untouched.tally ∙ writes ∙ ap (λ (t : Tally). t.writes) loads.tally;
+    any_moment = λ honest.
+        then_untouched (narrowed_on disk mid begun (loads.files (honest_tells honest)) (run honest)) (untouched.files (honest_tells honest));
+    quiet = quiet;
+  }
+    where
+      made_is : IsTrue d.tells → IsMade (d.state disk).journal.seen
+      made_is tells = subst (λ (s : State). IsMade s.journal.seen) (loads.files tells).now (begin tells).0
 
-    rests : IsTrue d.honest → (read.head ≡ take (from_or_first from) (d.state disk).journal.seen) × IsAtRest read.head (d.state office.disk) office.gate read.entries
-    rests tells = read.at_rest tells (d.state disk).journal.seen (begun_is tells)
-        (subst (λ (s : State). IsMade s.journal.seen) (loads tells).now (begin tells).0)
-
-    here : IsTrue d.honest → (d.state office.disk).journal ≡ synced_file (d.state disk).journal.seen
-    here tells = ap (λ (s : State). s.journal) (untouched tells).now ∙ begun_is tells
+      rests : IsTrue d.tells → (read.head ≡ take (from_or_first from) (d.state disk).journal.seen) × HasEntries read.head read.entries (d.state disk).journal.seen
+      rests tells = read.reads tells (d.state disk).journal.seen
+          ((begin tells).1 ∙ ap (λ (s : State). s.journal.seen) (loads.files tells).now) (made_is tells)
 
 -- on a sound disk the desk over them stands for no call yet
 module _ {D C : Type 0} {d : disks.Ghosts D} (laws : DiskLaws d) where
@@ -179,6 +182,7 @@ noted_reads d disk desk at r = record {
   front = r.front;
   tail = r.tail;
   on_disk = r.on_disk;
+  writes = r.writes;
   any_moment = r.any_moment;
   quiet = r.quiet;
 }

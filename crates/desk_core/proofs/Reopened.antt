@@ -62,12 +62,12 @@ slots_longer history more s fit = record {
 
 module _ (one_value : (bytes : List ℕ) (a b : SnapshotRecord) → Spells bytes a → Spells bytes b → a ≡ b) where
   -- what can be opened again is no broken journal
-  pub openable_unbroken : {D C : Type 0} (d : disks.Ghosts D) (old new : DeskView D C) (fault : DeskFault) (at : OpenFault)
+  pub openable_unbroken : {D C : Type 0} (d : disks.Ghosts D) (honest_tells : IsTrue d.honest → IsTrue d.tells) (old new : DeskView D C) (fault : DeskFault) (at : OpenFault)
       → IsImage (d.state old.disk).journal (d.state old.disk).journal.seen → Unopened d old new (Err fault) → IsTrue d.honest
       → IsOpenable (d.state old.disk) → answer_err fault ≡ answer_err (faults.Broken at) → ⊥
-  openable_unbroken d old new fault at own u tells openable is =
+  openable_unbroken d honest_tells old new fault at own u tells openable is =
       let why = subst (λ (r : Result Answer DeskFault). IsUnopened d old.disk new.disk r) is u.why in
-      no_broken at why.0 (never_fails one_value (d.state old.disk) at openable own (why.1 tells))
+      no_broken at why.0 (never_fails one_value (d.state old.disk) at openable own (why.1 (honest_tells tells)))
 
 module _ {D C : Type 0} {d : disks.Ghosts D} (laws : DiskLaws d) where
   abbrev Stands : Opened → List Call → DeskView D C → Type 0

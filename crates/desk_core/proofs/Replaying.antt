@@ -5,19 +5,20 @@ use Rattle.std.specs.Prelude.{IsTrue, nat_le}
 use Rattle.std.proofs.lemmas.Bool.{cases_lt, le-leb}
 use Rattle.std.proofs.lemmas.List.{length-take, length-replicate, take-append-le}
 use Rattle.disk_core.specs.declared.disk.Disk as disks
-use Rattle.disk_core.specs.Files.{State, File, synced_file}
+use Rattle.disk_core.specs.Files.{State}
 use Rattle.plain_office.specs.Office.{Office}
 use Rattle.plain_office.specs.Run.{run_from, accept}
 use Rattle.office_types.specs.declared.command.Entry.{Entry}
 use Rattle.bucket_account.specs.Standing.{most_commands}
 use Rattle.office_machine.specs.Once.{OfficeView, StandsFor}
+use Rattle.entry_codec.proofs.Bytes.{IsBytes}
 use Rattle.meter_journal.specs.declared.fault.OpenFault.{OpenFault}
 use Rattle.meter_journal.specs.declared.fault.OpenFault.TheVariants as faults
 use Rattle.entry_codec.specs.Spelling.{EntryFits, spelling}
-use Rattle.meter_journal.specs.History.{end_gate, IsAtRest}
+use Rattle.meter_journal.specs.History.{end_gate, HasEntries}
 use Rattle.meter_journal.specs.Reading.{IsMade, NextGives, Advances, HasPrefix, frame_at, body_at, Frame, Whole, Ended, Broken}
 use Rattle.meter_journal.proofs.History.{each-push, end_gate-none, end_gate-push, gate_high}
-use Rattle.meter_journal.proofs.Prefix.{prefix_start, read_more, read_end, frame_next}
+use Rattle.meter_journal.proofs.Prefix.{prefix_start, prefix_more, prefix_end, frame_next}
 use Rattle.desk_core.specs.Damage.{Start, IsDamagedFrom, ReplayFails, HasReplayed}
 use Rattle.desk_core.specs.Offices.{StandsSince}
 
@@ -38,7 +39,7 @@ abbrev IsReadUpTo : ℕ → List ℕ → List Entry → ℕ → List ℕ → Typ
 IsReadUpTo place head entries gate file = ((entries ≡ []) × (gate ≡ place) × (length file < place))
     ⊎ ((head ≡ take place file) × (place ≤ length file) × HasPrefix head entries gate file)
 
--- the entries up to this gate were read, on every disk; on an honest one they are those of its journal file
+-- the entries up to this gate were read, on every disk; on one that tells they are those of its journal file
 pub record HasRead {D : Type 0} (d : disks.Ghosts D) (first : OfficeView) (place : ℕ) (disk : D) (gate : ℕ) (office : OfficeView) : Type 0 where
   pub entries : List Entry
   pub each : AllByRecursion EntryFits entries
@@ -48,7 +49,7 @@ pub record HasRead {D : Type 0} (d : disks.Ghosts D) (first : OfficeView) (place
   pub place_is : length head ≡ place
   pub end : gate ≡ end_gate head entries
   pub small : (entries ≡ []) ⊎ (gate ≤ 2 ^ 45)
-  pub prefix : IsTrue d.honest → (file : List ℕ) → (d.state disk).journal ≡ synced_file file → IsMade file → IsReadUpTo place head entries gate file
+  pub prefix : IsTrue d.tells → (file : List ℕ) → (d.state disk).journal.seen ≡ file → IsMade file → IsReadUpTo place head entries gate file
 
 -- the next entry is taken as far as the office can count
 few_by : (accepted gate : ℕ) (head : List ℕ) (entries : List Entry) → accepted ≤ length entries → gate ≡ end_gate head entries → (entries ≡ []) ⊎ (gate ≤ 2 ^ 45) → accepted < most_commands
@@ -68,8 +69,8 @@ ended_inside gate file is = elim (cases_lt gate (length file)) [
       absurd (not_ended (sym (ap (λ (b : Bool). cond b Broken (cond (eqb (get_or file gate 0) 0xA5) (body_at gate file) Ended)) past) ∙ is))
 ]
 
-seen_is : (first mid : State) (file : List ℕ) → mid ≡ first → first.journal ≡ synced_file file → mid.journal.seen ≡ file
-seen_is first mid file same on_disk = ap (λ (s : State). s.journal.seen) same ∙ ap (λ (f : File). f.seen) on_disk
+seen_is : (first mid : State) (file : List ℕ) → mid ≡ first → first.journal.seen ≡ file → mid.journal.seen ≡ file
+seen_is first mid file same reads = ap (λ (s : State). s.journal.seen) same ∙ reads
 
 whole_of : (o : Option Entry) (e : Entry) (gate next : ℕ) (seen file : List ℕ) → o ≡ Some e → seen ≡ file → NextGives (Ok o) gate next (frame_at gate seen) → frame_at gate file ≡ Whole e next
 whole_of o e gate next seen file is same gives =
@@ -94,11 +95,10 @@ module _ {D : Type 0} (d : disks.Ghosts D) where
         place_is = head_size place seen;
         end = here ∙ sym (head_size place seen) ∙ sym (end_gate-none head);
         small = inl refl;
-        prefix = λ tells file on_disk made. elim (cases_lt (length file) place) [
+        prefix = λ tells file reads made. elim (cases_lt (length file) place) [
           | inl short ↦ inl (refl, here, short)
           | inr long ↦
-              let same : seen ≡ file = ap (λ (f : File). f.seen) on_disk in
-              let is : head ≡ take place file = ap (head_before place) same ∙ head_is place file long in
+              let is : head ≡ take place file = ap (head_before place) reads ∙ head_is place file long in
               inr (
                 is,
                 long,
@@ -111,20 +111,21 @@ module _ {D : Type 0} (d : disks.Ghosts D) where
   few_read first place disk gate office read = few_by office.records.accepted gate read.head read.entries read.counted read.end read.small
 
   module _ (first : OfficeView) (place : ℕ) (disk mid : D) (gate next : ℕ) (office : OfficeView) (read : HasRead d first place disk gate office)
-      (same : IsTrue d.honest → d.state mid ≡ d.state disk) where
-    one_prefix : (o : Option Entry) (e : Entry) (tells : IsTrue d.honest) → ((i : ℕ) → get_or (d.state disk).journal.seen i 0 < 256) → o ≡ Some e
+      (same : IsTrue d.tells → d.state mid ≡ d.state disk) where
+    one_prefix : (o : Option Entry) (e : Entry) (tells : IsTrue d.tells) → ((i : ℕ) → get_or (d.state disk).journal.seen i 0 < 256) → o ≡ Some e
         → NextGives (Ok o) gate next (frame_at gate (d.state mid).journal.seen)
-        → (file : List ℕ) (on_disk : (d.state disk).journal ≡ synced_file file) → IsReadUpTo place read.head read.entries gate file
+        → (file : List ℕ) (reads : (d.state disk).journal.seen ≡ file) → IsReadUpTo place read.head read.entries gate file
         → IsReadUpTo place read.head (read.entries ++ e ∷ []) next file
-    one_prefix o e tells bytes is gives file on_disk (inl (none, here, short)) =
-        let frame = whole_of o e gate next (d.state mid).journal.seen file is (seen_is (d.state disk) (d.state mid) file (same tells) on_disk) gives in
+    one_prefix o e tells bytes is gives file reads (inl (none, here, short)) =
+        let frame = whole_of o e gate next (d.state mid).journal.seen file is (seen_is (d.state disk) (d.state mid) file (same tells) reads) gives in
         let inside = frame_next gate file e next frame in
         absurd (omega (arith, here, short, inside.0, inside.1))
-    one_prefix o e tells bytes is gives file on_disk (inr (head, long, prefix)) =
-        inr (head, long, read_more prefix (same tells) on_disk next o e bytes is gives)
+    one_prefix o e tells bytes is gives file reads (inr (head, long, prefix)) =
+        let frame = whole_of o e gate next (d.state mid).journal.seen file is (seen_is (d.state disk) (d.state mid) file (same tells) reads) gives in
+        inr (head, long, prefix_more read.head read.entries gate file e next (subst IsBytes reads bytes) prefix frame)
 
-    pub one_read : (after : OfficeView) (o : Option Entry) (e : Entry) → (IsTrue d.honest → (i : ℕ) → get_or (d.state disk).journal.seen i 0 < 256) → o ≡ Some e
-        → (IsTrue d.honest → NextGives (Ok o) gate next (frame_at gate (d.state mid).journal.seen)) → Advances (Ok o) gate next → next ≤ 2 ^ 45
+    pub one_read : (after : OfficeView) (o : Option Entry) (e : Entry) → (IsTrue d.tells → (i : ℕ) → get_or (d.state disk).journal.seen i 0 < 256) → o ≡ Some e
+        → (IsTrue d.tells → NextGives (Ok o) gate next (frame_at gate (d.state mid).journal.seen)) → Advances (Ok o) gate next → next ≤ 2 ^ 45
         → ((start : Office) (entries : List Entry) → StandsSince start entries office → StandsSince start (entries ++ e ∷ []) after)
         → after.records.accepted ≡ office.records.accepted + 1 → HasRead d first place disk next after
     one_read after o e bytes is gives advances small taken counted =
@@ -138,22 +139,22 @@ module _ {D : Type 0} (d : disks.Ghosts D) where
           place_is = read.place_is;
           end = omega (arith, passed.1, read.end, end_gate-push read.head read.entries e);
           small = inr small;
-          prefix = λ tells file on_disk made. one_prefix o e tells (bytes tells) is (gives tells) file on_disk (read.prefix tells file on_disk made);
+          prefix = λ tells file reads made. one_prefix o e tells (bytes tells) is (gives tells) file reads (read.prefix tells file reads made);
         }
 
-    rests : (o : Option Entry) (new : D) (tells : IsTrue d.honest) → o ≡ None → d.state new ≡ d.state mid
-        → NextGives (Ok o) gate next (frame_at gate (d.state mid).journal.seen)
-        → (file : List ℕ) (on_disk : (d.state disk).journal ≡ synced_file file) → IsReadUpTo place read.head read.entries gate file
-        → (read.head ≡ take place file) × IsAtRest read.head (d.state new) next read.entries
-    rests o new tells is still gives file on_disk (inl (none, here, short)) =
-        let frame = ended_of o gate next (d.state mid).journal.seen file is (seen_is (d.state disk) (d.state mid) file (same tells) on_disk) gives in
+    rests : (o : Option Entry) (tells : IsTrue d.tells) → o ≡ None → NextGives (Ok o) gate next (frame_at gate (d.state mid).journal.seen)
+        → (file : List ℕ) (reads : (d.state disk).journal.seen ≡ file) → IsReadUpTo place read.head read.entries gate file
+        → (read.head ≡ take place file) × HasEntries read.head read.entries file
+    rests o tells is gives file reads (inl (none, here, short)) =
+        let frame = ended_of o gate next (d.state mid).journal.seen file is (seen_is (d.state disk) (d.state mid) file (same tells) reads) gives in
         absurd (omega (arith, here, short, ended_inside gate file frame))
-    rests o new tells is still gives file on_disk (inr (head, long, prefix)) =
-        (head, read_end prefix (same tells) on_disk (d.state new) next o still is gives)
+    rests o tells is gives file reads (inr (head, long, prefix)) =
+        let frame = ended_of o gate next (d.state mid).journal.seen file is (seen_is (d.state disk) (d.state mid) file (same tells) reads) gives in
+        (head, prefix_end read.head read.entries gate file prefix frame)
 
-    pub all_read : (new : D) (o : Option Entry) → (IsTrue d.honest → d.state new ≡ d.state mid) → o ≡ None
-        → (IsTrue d.honest → NextGives (Ok o) gate next (frame_at gate (d.state mid).journal.seen)) → Advances (Ok o) gate next → HasReplayed d first place disk new next office
-    all_read new o still is gives advances =
+    pub all_read : (o : Option Entry) → o ≡ None → (IsTrue d.tells → NextGives (Ok o) gate next (frame_at gate (d.state mid).journal.seen))
+        → Advances (Ok o) gate next → HasReplayed d first place disk next office
+    all_read o is gives advances =
         let here : next ≡ gate = subst (λ (x : Option Entry). Advances (Ok x) gate next) is advances in record {
           entries = read.entries;
           each = read.each;
@@ -162,7 +163,7 @@ module _ {D : Type 0} (d : disks.Ghosts D) where
           place_is = read.place_is;
           end = here ∙ read.end;
           small = subst (λ (k : ℕ). (read.entries ≡ []) ⊎ (k ≤ 2 ^ 45)) (sym here) read.small;
-          at_rest = λ tells file on_disk made. rests o new tells is (still tells) (gives tells) file on_disk (read.prefix tells file on_disk made);
+          reads = λ tells file reads made. rests o tells is (gives tells) file reads (read.prefix tells file reads made);
         }
 
     -- ---- why it fails
@@ -200,16 +201,16 @@ module _ {D : Type 0} (d : disks.Ghosts D) where
           breaks = inr (e, next, frame, refused since.plain since.stands);
         })
 
-    module _ (tells : IsTrue d.honest) (file : List ℕ) (on_disk : (d.state disk).journal ≡ synced_file file) (made : IsMade file) where
+    module _ (tells : IsTrue d.tells) (file : List ℕ) (reads : (d.state disk).journal.seen ≡ file) (made : IsMade file) where
       abbrev seen_here : (d.state mid).journal.seen ≡ file
-      seen_here = seen_is (d.state disk) (d.state mid) file (same tells) on_disk
+      seen_here = seen_is (d.state disk) (d.state mid) file (same tells) reads
 
       next_by : (fault : OpenFault) → NextGives (Err fault) gate next (frame_at gate file) → ReplayFails fault first place file
       next_by faults.NotMade gives = absurd gives.1
       next_by faults.Foreign gives = absurd gives.1
       next_by (faults.Damaged at) gives = λ start stands.
           subst (λ (k : ℕ). IsDamagedFrom (record { office = start; place = place }) k file) (sym gives.1.0)
-          (broken_from start stands file gives.1.1 (read.prefix tells file on_disk made))
+          (broken_from start stands file gives.1.1 (read.prefix tells file reads made))
       next_by faults.StoreFault gives = tt
       next_by faults.NoMemory gives = tt
 
@@ -221,4 +222,4 @@ module _ {D : Type 0} (d : disks.Ghosts D) where
       take_fails fault o e is gives (inl want) = subst (λ (f : OpenFault). ReplayFails f first place file) (sym want) tt
       take_fails fault o e is gives (inr (damaged, refused)) =
           subst (λ (f : OpenFault). ReplayFails f first place file) (sym damaged) (λ start stands.
-          refused_from start stands file e (whole_of o e gate next (d.state mid).journal.seen file is seen_here gives) refused (read.prefix tells file on_disk made))
+          refused_from start stands file e (whole_of o e gate next (d.state mid).journal.seen file is seen_here gives) refused (read.prefix tells file reads made))

@@ -97,9 +97,9 @@ module _ {D : Type 0} {d : disks.Ghosts D} (laws : DiskLaws d) where
     from_first none =
         let stands = reads.stands empty_office (subst (λ (o : Loaded). Begins o empty_office) (sym none) refl) in
         let head : reads.head ≡ header =
-        reads.front tells ∙ ap (λ (o : Loaded). take (place_of o) (d.state disk).journal.seen) none ∙ sym (made_head (d.state disk).journal.seen (reads.made tells)) in
+        reads.front (laws.honest_tells tells) ∙ ap (λ (o : Loaded). take (place_of o) (d.state disk).journal.seen) none ∙ sym (made_head (d.state disk).journal.seen (reads.made (laws.honest_tells tells))) in
         let same : reads.entries ≡ history =
-        entries_unique header reads.entries history (d.state disk).journal.seen (subst (λ (h : List ℕ). HasEntries h reads.entries (d.state disk).journal.seen) head (reads.tail tells)) has.entries in (
+        entries_unique header reads.entries history (d.state disk).journal.seen (subst (λ (h : List ℕ). HasEntries h reads.entries (d.state disk).journal.seen) head (reads.tail (laws.honest_tells tells))) has.entries in (
           record {
             plain = stands.plain;
             is_run = ap (run_from (Some empty_office)) (sym same) ∙ stands.is_run;
@@ -113,13 +113,13 @@ module _ {D : Type 0} {d : disks.Ghosts D} (laws : DiskLaws d) where
     from_slot : (loaded : SnapshotRecord) (position : ℕ) → reads.loaded ≡ Some (loaded, position) → StandsAfter history desk.office × (desk.gate ≡ end_gate header history)
     from_slot loaded position some =
         let gives : IsLoaded Spells loaded position (pair_in (d.state disk)) =
-        subst (λ (o : Loaded). LoadGives Spells o (pair_in (d.state disk))) some (reads.gives tells) in
+        subst (λ (o : Loaded). LoadGives Spells o (pair_in (d.state disk))) some (reads.gives (laws.honest_tells tells)) in
         let start = loaded_fits history disk loaded position tells fit gives in
         let stands = reads.stands start.office (subst (λ (o : Loaded). Begins o start.office) (sym some) start.shows_it) in
         let head : reads.head ≡ take position (d.state disk).journal.seen =
-        reads.front tells ∙ ap (λ (o : Loaded). take (place_of o) (d.state disk).journal.seen) some in
+        reads.front (laws.honest_tells tells) ∙ ap (λ (o : Loaded). take (place_of o) (d.state disk).journal.seen) some in
         slot.opened start has desk.office desk.gate reads.entries stands
-        (subst (λ (h : List ℕ). HasEntries h reads.entries (d.state disk).journal.seen) head (reads.tail tells))
+        (subst (λ (h : List ℕ). HasEntries h reads.entries (d.state disk).journal.seen) head (reads.tail (laws.honest_tells tells)))
         (reads.end ∙ ap (λ (h : List ℕ). end_gate h reads.entries) head)
 
     by_loaded : (o : Loaded) → reads.loaded ≡ o → StandsAfter history desk.office × (desk.gate ≡ end_gate header history)

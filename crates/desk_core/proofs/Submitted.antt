@@ -40,6 +40,7 @@ use Rattle.plain_office.proofs.Runs.{Token, step_kept, run_more}
 use Rattle.meter_journal.specs.History.{header, HasEntries, BeforeOrAfter}
 use Rattle.desk_core.specs.Numbers.{IsNumber}
 use Rattle.entry_codec.specs.Spelling.{spelling}
+use Rattle.desk_core.proofs.Synced.{synced_so}
 use Rattle.desk_core.proofs.Adding.{asked_and}
 use Rattle.desk_core.proofs.Offices.{fresh_in, run_is, run_on}
 use Rattle.desk_core.proofs.OneCallMore.{some_and}
@@ -468,6 +469,7 @@ module _ {D C : Type 0} {d : disks.Ghosts D} {number : ℕ} {question : Ask} {ol
             let other : HoldsHistory d b told = record { office = holds.office; end = holds.end; each = holds.each; small = holds.small; limit = holds.limit; at_rest = holds.at_rest } in
             subst (λ (t : ℕ). KeepsTo d old.disk new.disk (KeepsOrAdds t question b)) now_is
             (inside_of laws tells asks.t number b told new other question said (asks.answers (from_first b) other));
+        durable = synced_so d asks.t number before told new hold question said one;
         reason = reason d asks.t number hold.office.plain before told new question said asks.at one;
         ended = subst (λ (t : ℕ). end_of_time ≤ t → IsClockEnd t said) now_is (λ past. ended_so d asks.t number question hold.office.plain before told new said past one);
         repeats = λ b holds first again lt.
@@ -489,6 +491,7 @@ marked_causes d k office new question said stale causes = record {
   once = causes.once;
   quiet = causes.quiet;
   inside = causes.inside;
+  durable = causes.durable;
   reason = causes.reason;
   ended = causes.ended;
   repeats = causes.repeats;

@@ -4,6 +4,7 @@ use Rattle.office_base.specs.Faults.{Rose}
 use Rattle.moments.specs.Time.{end_of_time}
 use Rattle.disk_core.specs.declared.disk.Disk as disks
 use Rattle.disk_core.specs.Moments.{KeepsTo}
+use Rattle.disk_core.specs.Tallies.{IsDurable}
 use Rattle.plain_office.specs.Answers.{answer}
 use Rattle.plain_office.specs.Office.{Office}
 use Rattle.plain_office.specs.Once.{kept_for, step_with}
@@ -49,10 +50,11 @@ abbrev pub AddsOrNot : {D : Type 0} → disks.Ghosts D → Tail → Entry → D 
 AddsOrNot d before entry old new = KeepsTo d old new (BeforeOrAfter before.head before.entries entry (d.state old))
 
 module _ {D C : Type 0} (d : disks.Ghosts D) where
-  -- the entries grew by one, and in between each image had it or had it not; the disk did not fail
+  -- the entries grew by one, and in between each image had it or had it not; it was synced, and the disk did not fail
   pub record Grows (before : Tail) (entry : Entry) (old new : DeskView D C) : Type 0 where
     pub holds : HoldsTail d (with_entry before entry) new
     pub run : IsTrue d.honest → AddsOrNot d before entry old.disk new.disk
+    pub durable : IsDurable (d.tally old.disk) (d.tally new.disk)
     pub quiet : d.fault_count new.disk ≡ d.fault_count old.disk
 
   -- nothing was written
@@ -85,7 +87,7 @@ module _ {D C : Type 0} (d : disks.Ghosts D) where
       × (new.gate ≡ end_gate before.head (before.entries ++ entry ∷ []))
       × (IsTrue d.honest → IsAtRest before.head (d.state new.disk) new.gate (before.entries ++ entry ∷ [])
       × AddsOrNot d before entry old.disk new.disk)
-      × (d.fault_count new.disk ≡ d.fault_count old.disk)
+      × IsDurable (d.tally old.disk) (d.tally new.disk) × (d.fault_count new.disk ≡ d.fault_count old.disk)
   AddsEntry time reply before entry old new (Err (faults.StoreFault (Some told) count)) =
       (told ≡ time.told) × (count ≡ d.fault_count new.disk) × Rose (d.fault_count old.disk) (d.fault_count new.disk)
       × (IsTrue d.honest → AddsOrNot d before entry old.disk new.disk)

@@ -2,7 +2,7 @@
 use Rattle.std.specs.Prelude.{◌≡◌, ◌⊎◌, ℕ, ◌^◌, ◌<◌, ◌≤◌, List, [], length, take, Some, None, IsTrue}
 use Rattle.std.specs.List.{AllByRecursion}
 use Rattle.disk_core.specs.declared.disk.Disk as disks
-use Rattle.disk_core.specs.Files.{State, synced_file}
+use Rattle.disk_core.specs.Files.{State}
 use Rattle.plain_office.specs.Office.{Office}
 use Rattle.plain_office.specs.Run.{run, run_from, accept}
 use Rattle.office_types.specs.declared.command.Entry.{Entry}
@@ -10,7 +10,7 @@ use Rattle.office_machine.specs.Once.{OfficeView, StandsFor}
 use Rattle.entry_codec.specs.Spelling.{EntryFits}
 use Rattle.meter_journal.specs.declared.fault.OpenFault.{OpenFault}
 use Rattle.meter_journal.specs.declared.fault.OpenFault.TheVariants as faults
-use Rattle.meter_journal.specs.History.{header, end_gate, IsAtRest}
+use Rattle.meter_journal.specs.History.{header, end_gate, HasEntries}
 use Rattle.meter_journal.specs.Reading.{IsMade, IsNotMade, IsForeign, HasPrefix, frame_at, Broken, Whole}
 use Rattle.desk_core.specs.Offices.{StandsSince}
 use Rattle.desk_core.specs.Reading.{Loaded, IsLoadedIn, Begins, place_of}
@@ -89,7 +89,7 @@ ReplayFails faults.StoreFault first place file = Unit {0}
 ReplayFails faults.NoMemory first place file = Unit {0}
 
 -- all entries behind this place were read, and done again on what this view stands for
-pub record HasReplayed {D : Type 0} (d : disks.Ghosts D) (first : OfficeView) (place : ℕ) (old new : D) (gate : ℕ)
+pub record HasReplayed {D : Type 0} (d : disks.Ghosts D) (first : OfficeView) (place : ℕ) (disk : D) (gate : ℕ)
     (office : OfficeView) : Type 0 where
   pub entries : List Entry
   pub each : AllByRecursion EntryFits entries
@@ -98,8 +98,8 @@ pub record HasReplayed {D : Type 0} (d : disks.Ghosts D) (first : OfficeView) (p
   pub place_is : length head ≡ place
   pub end : gate ≡ end_gate head entries
   pub small : (entries ≡ []) ⊎ (gate ≤ 2 ^ 45)
-  pub at_rest : IsTrue d.honest → (file : List ℕ) → (d.state old).journal ≡ synced_file file → IsMade file
-      → (head ≡ take place file) × IsAtRest head (d.state new) gate entries
+  pub reads : IsTrue d.tells → (file : List ℕ) → (d.state disk).journal.seen ≡ file → IsMade file
+      → (head ≡ take place file) × HasEntries head entries file
 
 -- the bytes are no journal, or a damaged one
 abbrev pub IsBroken : OpenFault → Type 0

@@ -1,10 +1,11 @@
 -- What a call tells of the office that answers it, and how a stale desk comes to one.
-use Rattle.std.specs.Prelude.{◌≡◌, ◌⊎◌, ℕ, ◌+◌, ◌-◌, ◌^◌, ◌<◌, ◌≤◌, min, true, false, List, [], ◌∷◌, ◌++◌, length, Some, None, Result, Ok, Err, IsTrue, IsSomeAnd}
+use Rattle.std.specs.Prelude.{◌≡◌, ◌⊎◌, ℕ, ◌+◌, ◌-◌, ◌^◌, ◌<◌, ◌≤◌, min, true, false, List, [], ◌∷◌, ◌++◌, length, Some, None, Result, Ok, Err, IsTrue, IfSome, IsSomeAnd}
 use Rattle.office_base.specs.Faults.{Rose}
 use Rattle.disk_core.specs.declared.disk.Disk as disks
 use Rattle.disk_core.specs.Files.{State, IsImage}
+use Rattle.disk_core.specs.Tallies.{Tally, IsDurable}
 use Rattle.disk_core.specs.Fronts.{Narrower}
-use Rattle.disk_core.specs.Moments.{KeepsTo}
+use Rattle.disk_core.specs.Moments.{KeepsTo, WritesNothing}
 use Rattle.moments.specs.Time.{end_of_time}
 use Rattle.plain_office.specs.Answers.{answer}
 use Rattle.plain_office.specs.Office.{Office, KeptReply}
@@ -103,6 +104,13 @@ KeepsOrAdds t question before s = (image : List ℕ) → IsImage s.journal image
     → HasAcceptedHistory before image
     ⊎ IsSomeAnd (asked question) (λ call. HasAcceptedHistory (before ++ entry_of t call ∷ []) image)
 
+-- A command that the office accepts, and under whose token no reply is kept, is answered once two syncs or more were
+-- done, the last of them after each write.
+abbrev pub IsSyncedFirst : Tally → Tally → Ask → OfficeView → Result Answer DeskFault → Type 0
+IsSyncedFirst old new question view (Ok answer) =
+    IfSome (asked question) (λ call. IsNotKept call view → IsTrue (is_accepted answer.reply) → IsDurable old new)
+IsSyncedFirst old new question view (Err fault) = Unit {0}
+
 -- what a call tells of the office that answers it, where the clock's last number is then this
 pub record HasCauses {D C : Type 0} (d : disks.Ghosts D) (k : clocks.Ghosts C) (office : DeskView D C)
     (question : Ask)
@@ -114,6 +122,8 @@ pub record HasCauses {D C : Type 0} (d : disks.Ghosts D) (k : clocks.Ghosts C) (
   pub inside : IsTrue d.honest → (before : List Entry) → HoldsHistory d before office
       → KeepsTo d office.disk new.disk
       (KeepsOrAdds (moment_after (k.last new.clock) office.office.records.last) question before)
+  -- on every disk
+  pub durable : IsSyncedFirst (d.tally office.disk) (d.tally new.disk) question office.office said
   pub reason : HasStoreReason said question office.office (d.fault_count office.disk) (d.fault_count new.disk)
   -- On every disk, before the end of time, the reply is that of each plain office that the one in memory stands for,
   -- and it stands for what that becomes.
@@ -144,7 +154,7 @@ abbrev pub IsUnopened : {D : Type 0} → disks.Ghosts D → D → D → Result A
 IsUnopened d old new (Err (faults.StoreFault None count)) =
     Rose (d.fault_count old) (d.fault_count new) × (count ≡ d.fault_count new)
 IsUnopened d old new (Err (faults.Broken fault)) =
-    IsBroken fault × (IsTrue d.honest → OpenFailsOn fault (d.state old))
+    IsBroken fault × (IsTrue d.tells → OpenFailsOn fault (d.state old))
     × (d.fault_count new ≡ d.fault_count old)
 IsUnopened d old new (Err faults.NoMemory) = d.fault_count new ≡ d.fault_count old
 IsUnopened d old new (Err (faults.StoreFault (Some number) count)) = ⊥
@@ -168,6 +178,7 @@ module _ {D C : Type 0} (d : disks.Ghosts D) where
     pub is_stale : old.stale ≡ true
     pub why : IsUnopened d old.disk new.disk said
     pub clock : new.clock ≡ old.clock
+    pub writes : WritesNothing d old.disk new.disk
     pub any_moment : IsTrue d.honest → KeepsTo d old.disk new.disk (Narrower (d.state old.disk))
     pub limit : new.limit ≡ old.limit
     pub later : d.fault_count old.disk ≤ d.fault_count new.disk

@@ -3,7 +3,7 @@ ghost use Rattle.std.specs.Prelude.{◌≡◌, ◌⊎◌, ◌<◌, ◌≤◌, �
 ghost use Rattle.std.specs.Prelude.{[], List, true, false, IsTrue, IsOk, IfOk, IfErr, Err};
 ghost use Rattle.office_base.specs.Faults.{Rose};
 ghost use Rattle.disk_core.specs.Fronts.{Narrower};
-ghost use Rattle.disk_core.specs.Moments.{KeepsTo};
+ghost use Rattle.disk_core.specs.Moments.{KeepsTo, WritesNothing};
 ghost use Rattle.moments.specs.Time.{end_of_time};
 ghost use Rattle.office_types.specs.Fits.{AnswerFits};
 ghost use Rattle.plain_office.specs.Office as plain;
@@ -85,11 +85,14 @@ impl<D: Disk + Drop, C: Clock + Drop> Desk<D, C> {
         ensures opens { IfOk result (λ desk. Opens D.Disk disk clock limit desk) }
 
         // If it is not opened, the bytes that are read tell why, unless the disk failed or memory ran out.
-        ensures fails { IsTrue D.honest → IfErr result (λ e. OpenFailsOn e.0 (D.state disk)) }
+        ensures fails { IsTrue D.tells → IfErr result (λ e. OpenFailsOn e.0 (D.state disk)) }
 
         // So a sound disk is opened.
         ensures sound { IsTrue D.honest → IsSound (D.state disk)
             → IfErr result (λ e. (e.0 ≡ OpenFault.StoreFault) ⊎ (e.0 ≡ OpenFault.NoMemory)) }
+
+        // Nothing is written, whatever disk it is.
+        ensures writes { IfErr result (λ e. WritesNothing D.Disk disk e.1) }
 
         // Then each image of the disk is one that it had, at every moment of the call.
         ensures any_moment { IsTrue D.honest

@@ -1,9 +1,8 @@
 // Opening a journal again.
 ghost use Rattle.std.specs.Prelude.{◌≡◌, ◌⊎◌, ◌+◌, ◌<◌, ◌≤◌, ◌++◌, ◌∷◌, [], ℕ, List};
 ghost use Rattle.std.specs.Prelude.{length, IsTrue, Some, None, Ok, Err, IfOk, IfErr, OnOk};
-ghost use Rattle.disk_core.specs.Files.{synced_file};
 ghost use Rattle.disk_core.specs.Fronts.{Narrower};
-ghost use Rattle.disk_core.specs.Moments.{KeepsTo, Untouched};
+ghost use Rattle.disk_core.specs.Moments.{KeepsTo, OnlyReads, WritesNothing};
 ghost use Rattle.office_types.specs.declared.command.Entry.{Entry};
 ghost use Rattle.office_types.specs.Tokens.{MayCarry};
 ghost use Rattle.plain_office.specs.Office as plain;
@@ -36,7 +35,7 @@ struct LoadedOffice {
 // Loads the checkpoint, and restores the office that it keeps; an office that is new where there is none.
 fn beginning<D: Disk>(alloc: Global, disk: &mut D) -> Result<LoadedOffice, OpenFault>
     ensures begins { IfOk result (λ b. BeginsOn D.Disk disk.old b.office b.from) }
-    ensures untouched { IsTrue D.honest → Untouched D.Disk disk.old disk.new }
+    ensures untouched { OnlyReads D.Disk disk.old disk.new }
     ensures fault { IfErr result (λ e. (e ≡ OpenFault.StoreFault) ⊎ (e ≡ OpenFault.NoMemory)) }
     ensures cause { HasStoreCause (D.fault_count disk.old) (D.fault_count disk.new) result }
 {
@@ -86,14 +85,14 @@ fn replay<D: Disk>(
     end: u64,
     office: &mut Office,
 ) -> Result<(), OpenFault>
-    requires known { IsTrue D.honest → end ≡ length (D.state journal.old.disk).journal.seen }
+    requires known { IsTrue D.tells → end ≡ length (D.state journal.old.disk).journal.seen }
     requires fresh { office.old.records.accepted ≡ 0 }
 
     ensures read { OnOk result (HasReplayed D.Disk office.old journal.old.gate
-        journal.old.disk journal.new.disk journal.new.gate office.new) }
-    ensures fails { IsTrue D.honest → (file : List ℕ) → (D.state journal.old.disk).journal ≡ synced_file file
+        journal.old.disk journal.new.gate office.new) }
+    ensures fails { IsTrue D.tells → (file : List ℕ) → (D.state journal.old.disk).journal.seen ≡ file
         → IsMade file → IfErr result (λ e. ReplayFails e office.old journal.old.gate file) }
-    ensures untouched { IsTrue D.honest → Untouched D.Disk journal.old.disk journal.new.disk }
+    ensures untouched { OnlyReads D.Disk journal.old.disk journal.new.disk }
     ensures limit { journal.new.limit ≡ journal.old.limit }
     ensures cause { HasStoreCause (D.fault_count journal.old.disk) (D.fault_count journal.new.disk) result }
 {
@@ -118,7 +117,8 @@ impl<D: Disk + Drop, C: Clock + Drop> Engine<D, C> {
     // again. Nothing is written, and the clock tells no number.
     pub(crate) fn open(&mut self) -> Result<(), OpenFault>
         ensures opens { OnOk result (Reopens D.Disk self.old self.new) }
-        ensures fails { IsTrue D.honest → IfErr result (λ e. OpenFailsOn e (D.state self.old.disk)) }
+        ensures writes { WritesNothing D.Disk self.old.disk self.new.disk }
+        ensures fails { IsTrue D.tells → IfErr result (λ e. OpenFailsOn e (D.state self.old.disk)) }
         ensures any_moment { IsTrue D.honest
             → KeepsTo D.Disk self.old.disk self.new.disk (Narrower (D.state self.old.disk)) }
         ensures clock { self.new.clock ≡ self.old.clock }

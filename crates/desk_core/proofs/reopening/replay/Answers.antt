@@ -1,6 +1,7 @@
-use Rattle.std.proofs.Common.{◌≡◌, ◌⊎◌, inl, inr, ⊎_elim, ℕ, Option, Some, None, Ok, rules, arith, refl, ◌∙◌, subst}
+use Rattle.std.proofs.Common.{◌≡◌, ◌⊎◌, inl, inr, ⊎_elim, ℕ, Option, Some, None, Ok, length, rules, arith, refl, ◌∙◌, ap, sym, subst}
+use Rattle.disk_core.specs.Files.{State}
 use Rattle.disk_core.specs.declared.disk.FileNo.TheVariants.{Journal}
-use Rattle.disk_core.proofs.Time.{started, untouched_then}
+use Rattle.disk_core.proofs.Time.{started, only_reads_then}
 use Rattle.meter_journal.specs.Reading.{Advances}
 use Rattle.office_types.specs.Tokens.{MayCarry}
 use Rattle.office_types.specs.declared.command.Entry.{Entry}
@@ -19,7 +20,10 @@ may_carry old new None entry is advances = absurd cc
 pub reading-init : goal.reading-init
 reading-init g c = record {
   known = c.requires.known;
-  untouched = λ told. started g.D.Disk c.args.journal.now.disk (λ s. s ≡ g.D.Disk.state c.args.journal.now.disk) (g.met.D.Disk.only_now c.args.journal.now.disk) refl;
+  untouched = record {
+    tally = refl;
+    files = λ told. started g.D.Disk c.args.journal.now.disk (λ s. s ≡ g.D.Disk.state c.args.journal.now.disk) (g.met.D.Disk.only_now c.args.journal.now.disk) refl;
+  };
   read = none_read g.D.Disk c.args.journal.now.disk c.args.journal.now.gate c.args.journal.now.gate c.args.office.now refl c.requires.fresh;
   limit = refl;
   later = omega arith;
@@ -30,11 +34,11 @@ pub reading-preserved : goal.reading-preserved
 reading-preserved g c =
     let d = g.D.Disk in
     record {
-      known = search rules;
-      untouched = λ told. untouched_then (c.reading.invariant.untouched told) (c.next.ensures.untouched told);
+      known = λ told. c.reading.invariant.known told ∙ ap (λ (s : State). length s.journal.seen) (sym (c.next.ensures.untouched.files told).now);
+      untouched = only_reads_then c.reading.invariant.untouched c.next.ensures.untouched;
       read =
           one_read d c.args.office.now c.args.journal.now.gate c.args.journal.now.disk c.reading.journal.disk c.reading.journal.gate c.next.new.self.gate c.reading.office c.reading.invariant.read
-          (λ told. (c.reading.invariant.untouched told).now) c.take.new.office c.in-Ok.read c.in-Some.entry
+          (λ told. (c.reading.invariant.untouched.files told).now) c.take.new.office c.in-Ok.read c.in-Some.entry
           (λ told. g.met.D.Disk.holds_bytes told c.args.journal.now.disk Journal)
           c.in-Some.is c.in-Ok.ensures.exact c.in-Ok.ensures.advances (search rules) c.in-Ok-take.ensures.ok c.in-Ok-take.ensures.counted;
       limit = search rules;
@@ -46,21 +50,20 @@ pub returns-in-None-clause-read : goal.returns-in-None-clause-read
 returns-in-None-clause-read g c =
     let d = g.D.Disk in
     all_read d c.args.office.now c.args.journal.now.gate c.args.journal.now.disk c.reading.journal.disk c.reading.journal.gate c.next.new.self.gate c.reading.office c.reading.invariant.read
-    (λ told. (c.reading.invariant.untouched told).now) c.next.new.self.disk c.in-Ok.read
-    (λ told. (c.next.ensures.untouched told).now) c.in-None.is c.in-Ok.ensures.exact c.in-Ok.ensures.advances
+    (λ told. (c.reading.invariant.untouched.files told).now) c.in-Ok.read c.in-None.is c.in-Ok.ensures.exact c.in-Ok.ensures.advances
 
 pub returns-in-Err-clause-fails : goal.returns-in-Err-clause-fails
-returns-in-Err-clause-fails g c told file on_disk made =
+returns-in-Err-clause-fails g c told file reads made =
     let d = g.D.Disk in
     next_fails d c.args.office.now c.args.journal.now.gate c.args.journal.now.disk c.reading.journal.disk c.reading.journal.gate c.next.new.self.gate c.reading.office c.reading.invariant.read
-    (λ tells. (c.reading.invariant.untouched tells).now) told file on_disk made c.in-Err.fault (c.in-Err.ensures.exact told)
+    (λ tells. (c.reading.invariant.untouched.files tells).now) told file reads made c.in-Err.fault (c.in-Err.ensures.exact told)
 
 pub returns-in-Err-take-clause-fails : goal.returns-in-Err-take-clause-fails
-returns-in-Err-take-clause-fails g c told file on_disk made =
+returns-in-Err-take-clause-fails g c told file reads made =
     let d = g.D.Disk in
     let fault = c.in-Err-take.fault in
     take_fails d c.args.office.now c.args.journal.now.gate c.args.journal.now.disk c.reading.journal.disk c.reading.journal.gate c.next.new.self.gate c.reading.office c.reading.invariant.read
-    (λ tells. (c.reading.invariant.untouched tells).now) told file on_disk made fault c.in-Ok.read c.in-Some.entry c.in-Some.is (c.in-Ok.ensures.exact told)
+    (λ tells. (c.reading.invariant.untouched.files tells).now) told file reads made fault c.in-Ok.read c.in-Some.entry c.in-Some.is (c.in-Ok.ensures.exact told)
     (subst (λ (k : ℕ). (fault ≡ NoMemory) ⊎ ((fault ≡ Damaged k) × ((p : Office) → StandsFor c.reading.office p → accept p c.in-Some.entry ≡ None))) c.end-gate.ensures
     c.in-Err-take.ensures.damaged)
 

@@ -1,12 +1,12 @@
 use Rattle.std.proofs.Common.{◌≡◌, ◌≤◌, ◌-◌, ◌^◌, ◌+◌, IsTrue, length}
-use Rattle.disk_core.specs.Moments.{Untouched}
+use Rattle.disk_core.specs.Moments.{OnlyReads}
 use Rattle.desk_core.proofs.Replaying.{HasRead}
 use Rattle.desk_core.proofs.reopening.replay.Given as goal
 
 abbrev pub invariant-reading : goal.invariant-reading
 invariant-reading g l = record {
-  known : IsTrue g.D.Disk.honest → l.initial.end ≡ length (g.D.Disk.state l.journal.disk).journal.seen;
-  untouched : IsTrue g.D.Disk.honest → Untouched g.D.Disk l.initial.journal.disk l.journal.disk;
+  known : IsTrue g.D.Disk.tells → l.initial.end ≡ length (g.D.Disk.state l.journal.disk).journal.seen;
+  untouched : OnlyReads g.D.Disk l.initial.journal.disk l.journal.disk;
   read : HasRead g.D.Disk l.initial.office l.initial.journal.gate l.initial.journal.disk l.journal.gate l.office;
   limit : l.journal.limit ≡ l.initial.journal.limit;
   later : g.D.Disk.fault_count l.initial.journal.disk ≤ g.D.Disk.fault_count l.journal.disk;

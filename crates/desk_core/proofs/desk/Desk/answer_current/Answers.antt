@@ -17,13 +17,13 @@ use Rattle.desk_core.proofs.Submitted.{fresh_after, marked_causes, asked_told, u
 use Rattle.desk_core.proofs.desk.Desk.answer_current.Goals as goal
 
 -- the office that answers is ready
-office_ready : {D C : Type 0} (d : disks.Ghosts D) (old office : DeskView D C) → (old.stale ≡ false → IsReady d old) → IsOffice d old office → IsReady d office
-office_ready {D} {C} d old office ready (inl (fresh, same)) = subst (λ (x : DeskView D C). IsReady d x) (sym same) (ready fresh)
-office_ready d old office ready (inr (stale, again)) = reads_ready d old.disk office again.reads
+office_ready : {D C : Type 0} (d : disks.Ghosts D) (honest_tells : IsTrue d.honest → IsTrue d.tells) (old office : DeskView D C) → (old.stale ≡ false → IsReady d old) → IsOffice d old office → IsReady d office
+office_ready {D} {C} d honest_tells old office ready (inl (fresh, same)) = subst (λ (x : DeskView D C). IsReady d x) (sym same) (ready fresh)
+office_ready d honest_tells old office ready (inr (stale, again)) = reads_ready d honest_tells old.disk office again.reads
 
 pub answer_now-said-requires : goal.answer_now-said-requires
 answer_now-said-requires g c = record {
-  ready = office_ready g.D.Disk c.self.inside.engine c.refresh.new.self c.self.invariant.0 c.in_default.ensures.office;
+  ready = office_ready g.D.Disk g.met.D.Disk.honest_tells c.self.inside.engine c.refresh.new.self c.self.invariant.0 c.in_default.ensures.office;
 }
 
 pub returns-in-Err-clause-stands : goal.returns-in-Err-clause-stands
@@ -39,7 +39,7 @@ returns-in-Err-clause-stands g c opened calls stands =
     opened calls s c.args.ask.now new c.in-Err.fault (unbroken s.tells) c.refresh.ensures.stale c.in-Err.ensures.unopened)
   where
     unbroken : IsTrue g.D.Disk.honest → (at : OpenFault) → answer_err c.in-Err.fault ≡ answer_err (Broken at) → ⊥
-    unbroken tells at is = openable_unbroken one_value g.D.Disk c.self.inside.engine c.refresh.new.self c.in-Err.fault at
+    unbroken tells at is = openable_unbroken one_value g.D.Disk g.met.D.Disk.honest_tells c.self.inside.engine c.refresh.new.self c.in-Err.fault at
         (g.met.D.Disk.reads_image tells c.self.inside.engine.disk Journal) c.in-Err.ensures.unopened tells (c.self.invariant.1 tells) is
 
 pub returns-clause-stands : goal.returns-clause-stands
@@ -76,7 +76,7 @@ returns-clause-causes g c =
 pub returns-in-Err-clause-not_broken : goal.returns-in-Err-clause-not_broken
 returns-in-Err-clause-not_broken g c tells fault is =
     let d = g.D.Disk in
-    openable_unbroken one_value d c.self.inside.engine c.refresh.new.self c.in-Err.fault fault (g.met.D.Disk.reads_image tells c.self.inside.engine.disk Journal) c.in-Err.ensures.unopened tells
+    openable_unbroken one_value d g.met.D.Disk.honest_tells c.self.inside.engine c.refresh.new.self c.in-Err.fault fault (g.met.D.Disk.reads_image tells c.self.inside.engine.disk Journal) c.in-Err.ensures.unopened tells
     (c.self.invariant.1 tells) is
 
 pub returns-in-Err-clause-cause : goal.returns-in-Err-clause-cause

@@ -25,13 +25,13 @@ returns-in-Ok-clause-opens g c =
 pub returns-in-Err-clause-sound : goal.returns-in-Err-clause-sound
 returns-in-Err-clause-sound g c told sound =
     let d = g.D.Disk in
-    let fails = subst (λ (x : g.row.D.Denot). OpenFailsOn c.in-Err.fault (d.state x)) c.over-engine.ensures.disk (c.in-Err.ensures.fails told) in
+    let fails = subst (λ (x : g.row.D.Denot). OpenFailsOn c.in-Err.fault (d.state x)) c.over-engine.ensures.disk (c.in-Err.ensures.fails (g.met.D.Disk.honest_tells told)) in
     sound_never_fails (laws_of g.met.D.Disk) c.args.disk c.in-Err.fault told sound fails
 
 pub invariant_of-result : goal.invariant_of-result
 invariant_of-result g c =
     let d = g.D.Disk in
     let S : Type 0 = DeskView g.row.D.Denot g.row.C.Denot in
-    let ready = reads_ready d c.over-engine.result.disk c.open.new.self c.in-Ok.ensures.opens.reads in
+    let ready = reads_ready d g.met.D.Disk.honest_tells c.over-engine.result.disk c.open.new.self c.in-Ok.ensures.opens.reads in
     subst (λ (x : S). (x.stale ≡ false → IsReady d x) × (IsTrue d.honest → IsOpenable (d.state x.disk))) (sym c.note_opening.ensures)
     (λ _. noted_ready d c.open.new.self c.open.new.self.gate ready, λ tells. ready_openable d c.open.new.self tells ready)

@@ -1,4 +1,5 @@
 use Rattle.std.proofs.Common.{◌≡◌, ℕ, Ok, ◌+◌, sym, subst, length, IsTrue}
+use Rattle.disk_core.specs.Tallies.{IsDurable}
 use Rattle.meter_journal.specs.History.{IsAtRest}
 use Rattle.desk_core.specs.Answering.{AddsOrNot}
 use Rattle.desk_core.specs.Desk.{DeskView}
@@ -24,6 +25,7 @@ returns-in-Ok-clause-adds g c before e fits spelled end rest =
         subst (λ (s : DeskView g.row.D.Denot g.row.C.Denot). AddsOrNot d before e s.disk c.append.new.self.disk) c.self.view_is
             (c.in-Ok.ensures.any_moment tells before.head before.entries e fits spelled (inner tells)),
       ),
+      subst (λ (s : DeskView g.row.D.Denot g.row.C.Denot). IsDurable (d.tally s.disk) (d.tally c.append.new.self.disk)) c.self.view_is c.in-Ok.ensures.durable,
       subst (λ (s : DeskView g.row.D.Denot g.row.C.Denot). d.fault_count c.append.new.self.disk ≡ d.fault_count s.disk) c.self.view_is
           (c.in-Ok.ensures.quiet (λ is. absurd cc)),
     )

@@ -3,7 +3,8 @@ use Rattle.std.specs.Prelude.{IsTrue, IfErr}
 use Rattle.disk_core.proofs.Time.{then_untouched}
 use Rattle.disk_core.specs.Files.{State, File}
 use Rattle.disk_core.specs.Fronts.{Narrower}
-use Rattle.disk_core.specs.Moments.{KeepsTo, Untouched}
+use Rattle.disk_core.specs.Moments.{KeepsTo, OnlyReads, Untouched}
+use Rattle.disk_core.specs.declared.disk.FileNo.TheVariants.{Journal}
 use Rattle.meter_journal.specs.Reading.{HeadGives}
 use Rattle.desk_core.specs.Damage.{HasReplayed, ReplayFails, OpenFailsOn}
 use Rattle.desk_core.specs.Rereading.{BeginsOn}
@@ -26,11 +27,12 @@ returns-clause-opens g c =
     let office : P = record { disk = journal.disk; clock = inside.clock; office = c.replay.new.office; gate = journal.gate; opened_at = inside.opened_at; limit = journal.limit; stale = inside.stale } in
     let begins = subst (λ (x : g.row.D.Denot). BeginsOn d x first from) lent c.in-Ok.ensures.begins in
     on_quiet c.replay.result (λ none read. subst (λ (s : P). Reopens d s office) c.self.view_is (record {
-      reads = reads_on inside.journal.disk mid begun.disk office first from begins
-          (subst (λ (k : ℕ). HasReplayed d first k begun.disk journal.disk journal.gate c.replay.new.office) c.in-Ok-open.ensures.start read)
+      reads = reads_on g.met.D.Disk.honest_tells inside.journal.disk mid begun.disk office
+          (subst (λ (x : g.row.D.Denot). OnlyReads d x mid) lent c.beginning.ensures.untouched) c.replay.ensures.untouched c.in-Ok-open.ensures.writes
+          first from begins (subst (λ (k : ℕ). HasReplayed d first k begun.disk journal.gate c.replay.new.office) c.in-Ok-open.ensures.start read)
           (omega (arith, c.self.invariant, c.replay.ensures.limit, c.in-Ok-open.ensures.limit))
-          (λ tells. subst (λ (x : g.row.D.Denot). Untouched d x mid) lent (c.beginning.ensures.untouched tells))
-          (λ tells. let ok = c.in-Ok-open.ensures.ok tells in (ok.0, ok.2)) c.in-Ok-open.ensures.any_moment c.replay.ensures.untouched
+          (λ tells. ((c.in-Ok-open.ensures.ok tells).0, c.in-Ok-open.ensures.reads tells (λ is. absurd cc) Journal))
+          c.in-Ok-open.ensures.synced c.in-Ok-open.ensures.any_moment
           (c.replay.ensures.cause.quiet none ∙ c.in-Ok-open.ensures.cause.quiet (λ is. absurd cc) ∙ c.in-Ok.ensures.cause.quiet (λ is. absurd cc) ∙ ap d.fault_count lent);
       clock = refl;
       limit = c.replay.ensures.limit ∙ c.in-Ok-open.ensures.limit;
@@ -46,7 +48,7 @@ returns-in-Err-open-clause-fails g c tells =
     let P : Type 0 = DeskView g.row.D.Denot g.row.C.Denot in
     subst (λ (s : P). OpenFailsOn c.in-Err-open.fault (d.state s.disk)) c.self.view_is
     (head_fails c.in-Err-open.fault (d.state c.self.inside.journal.disk)
-    (subst (λ (s : State). HeadGives {T = ℕ} (Err c.in-Err-open.fault) s.journal.seen) ((c.beginning.ensures.untouched tells).now ∙ ap d.state c.disk_mut.ensures.value)
+    (subst (λ (s : State). HeadGives {T = ℕ} (Err c.in-Err-open.fault) s.journal.seen) ((c.beginning.ensures.untouched.files tells).now ∙ ap d.state c.disk_mut.ensures.value)
     (c.in-Err-open.ensures.err tells)))
 
 pub returns-clause-fails : goal.returns-clause-fails
@@ -61,16 +63,16 @@ returns-clause-fails g c tells =
     let ok = c.in-Ok-open.ensures.ok tells in
     on_fault c.replay.result (λ e fails. subst (λ (s : P). OpenFailsOn e (d.state s.disk)) c.self.view_is
     (replay_fails old first from (subst (λ (x : g.row.D.Denot). BeginsOn d x first from) lent c.in-Ok.ensures.begins) tells e (d.state mid).journal.seen
-    (ap (λ (s : State). s.journal.seen) ((c.beginning.ensures.untouched tells).now ∙ ap d.state lent)) ok.0 fails))
+    (ap (λ (s : State). s.journal.seen) ((c.beginning.ensures.untouched.files tells).now ∙ ap d.state lent)) ok.0 fails))
     (subst (λ (k : ℕ). IfErr c.replay.result (λ e. ReplayFails e first k (d.state mid).journal.seen)) c.in-Ok-open.ensures.start
-    (c.replay.ensures.fails tells (d.state mid).journal.seen ok.2 ok.0))
+    (c.replay.ensures.fails tells (d.state mid).journal.seen (c.in-Ok-open.ensures.reads tells (λ is. absurd cc) Journal) ok.0))
 
 pub returns-in-Err-clause-any_moment : goal.returns-in-Err-clause-any_moment
 returns-in-Err-clause-any_moment g c tells =
     let d = g.D.Disk in
     let P : Type 0 = DeskView g.row.D.Denot g.row.C.Denot in
     let mid = c.beginning.new.disk in
-    let still = subst (λ (x : g.row.D.Denot). Untouched d x mid) c.disk_mut.ensures.value (c.beginning.ensures.untouched tells) in
+    let still = subst (λ (x : g.row.D.Denot). Untouched d x mid) c.disk_mut.ensures.value (c.beginning.ensures.untouched.files (g.met.D.Disk.honest_tells tells)) in
     subst (λ (s : P). KeepsTo d s.disk mid (Narrower (d.state s.disk))) c.self.view_is (narrowed_still c.self.inside.journal.disk mid still)
 
 pub returns-in-Err-open-clause-any_moment : goal.returns-in-Err-open-clause-any_moment
@@ -78,7 +80,7 @@ returns-in-Err-open-clause-any_moment g c tells =
     let d = g.D.Disk in
     let P : Type 0 = DeskView g.row.D.Denot g.row.C.Denot in
     let mid = c.beginning.new.disk in
-    let still = subst (λ (x : g.row.D.Denot). Untouched d x mid) c.disk_mut.ensures.value (c.beginning.ensures.untouched tells) in
+    let still = subst (λ (x : g.row.D.Denot). Untouched d x mid) c.disk_mut.ensures.value (c.beginning.ensures.untouched.files (g.met.D.Disk.honest_tells tells)) in
     subst (λ (s : P). KeepsTo d s.disk c.open.new.self.disk (Narrower (d.state s.disk))) c.self.view_is
     (narrowed_on c.self.inside.journal.disk mid c.open.new.self.disk still (c.open.ensures.any_moment tells))
 
@@ -87,7 +89,7 @@ returns-clause-any_moment g c tells =
     let d = g.D.Disk in
     let P : Type 0 = DeskView g.row.D.Denot g.row.C.Denot in
     let mid = c.beginning.new.disk in
-    let still = subst (λ (x : g.row.D.Denot). Untouched d x mid) c.disk_mut.ensures.value (c.beginning.ensures.untouched tells) in
+    let still = subst (λ (x : g.row.D.Denot). Untouched d x mid) c.disk_mut.ensures.value (c.beginning.ensures.untouched.files (g.met.D.Disk.honest_tells tells)) in
     subst (λ (s : P). KeepsTo d s.disk c.replay.new.journal.disk (Narrower (d.state s.disk))) c.self.view_is
     (then_untouched (narrowed_on c.self.inside.journal.disk mid c.open.new.self.disk still (c.open.ensures.any_moment tells))
-    (c.replay.ensures.untouched tells))
+    (c.replay.ensures.untouched.files (g.met.D.Disk.honest_tells tells)))
