@@ -3,3 +3,4 @@ pub mod Heads
 pub mod Loading
 pub mod Saving
 pub mod Slots
+pub mod Synced

@@ -1,7 +1,7 @@
 // Finds the slot that is loaded, and reads what it keeps.
 ghost use Rattle.std.specs.Prelude.{◌≡◌, ◌+◌, ◌≤◌, ℕ, List, true, false, IsTrue, IfOk, IfSome, MatchOption, length};
 ghost use Rattle.disk_core.specs.Files.{seen_in};
-ghost use Rattle.disk_core.specs.Moments.{Untouched};
+ghost use Rattle.disk_core.specs.Moments.{OnlyReads};
 ghost use Rattle.slots.specs.Causes.{HasSaveCause};
 ghost use Rattle.slots.specs.Heads.{HasHead, body_at, is_below};
 ghost use Rattle.slots.specs.Loading.{IsCheckpoint, ReadGives, FindGives, LoadGives, pair_in};
@@ -30,12 +30,12 @@ fn body_of<D: Disk, B: Body>(
     file: FileNo,
     size: u64,
 ) -> Result<Option<B>, SaveFault>
-    requires inside { IsTrue D.honest → 17 + size ≤ length (seen_in file (D.state disk.old)) }
-    ensures exact { IsTrue D.honest → IfOk result (λ read. MatchOption read
+    requires inside { IsTrue D.tells → 17 + size ≤ length (seen_in file (D.state disk.old)) }
+    ensures exact { IsTrue D.tells → IfOk result (λ read. MatchOption read
         ((value : B) → B.spells (body_at size (seen_in file (D.state disk.old))) value → ⊥)
         (λ value. B.spells (body_at size (seen_in file (D.state disk.old))) value)) }
     ensures spelled { IfOk result (λ read. IfSome read (λ value. (body : List ℕ) × B.spells body value)) }
-    ensures untouched { IsTrue D.honest → Untouched D.Disk disk.old disk.new }
+    ensures untouched { OnlyReads D.Disk disk.old disk.new }
     ensures cause { HasSaveCause (D.fault_count disk.old) (D.fault_count disk.new) result }
 {
     let Ok(mut room) = vec![in alloc; 0u8; size as usize] else {
@@ -57,11 +57,11 @@ fn slot_of<D: Disk, B: Body>(
     file: FileNo,
     head: Option<Head>,
 ) -> Result<Option<(B, u64)>, SaveFault>
-    requires head { IsTrue D.honest → HasHead head (seen_in file (D.state disk.old)) }
-    ensures exact { IsTrue D.honest → IfOk result
+    requires head { IsTrue D.tells → HasHead head (seen_in file (D.state disk.old)) }
+    ensures exact { IsTrue D.tells → IfOk result
         (λ read. ReadGives B.spells read (seen_in file (D.state disk.old))) }
     ensures checkpoint { IfOk result (λ read. IfSome read (λ read. IsCheckpoint B.spells read.0 read.1)) }
-    ensures untouched { IsTrue D.honest → Untouched D.Disk disk.old disk.new }
+    ensures untouched { OnlyReads D.Disk disk.old disk.new }
     ensures cause { HasSaveCause (D.fault_count disk.old) (D.fault_count disk.new) result }
 {
     let Some(head) = head else {
@@ -99,13 +99,13 @@ fn find_in_first<D: Disk, B: Body>(
     zero: Option<Head>,
     one: Option<Head>,
 ) -> Result<Option<Found<B>>, SaveFault>
-    requires zero { IsTrue D.honest → HasHead zero (D.state disk.old).slot0.seen }
-    requires one { IsTrue D.honest → HasHead one (D.state disk.old).slot1.seen }
+    requires zero { IsTrue D.tells → HasHead zero (D.state disk.old).slot0.seen }
+    requires one { IsTrue D.tells → HasHead one (D.state disk.old).slot1.seen }
     requires order { is_below zero one ≡ false }
-    ensures exact { IsTrue D.honest → IfOk result (λ found. FindGives B.spells found (pair_in (D.state disk.old))) }
+    ensures exact { IsTrue D.tells → IfOk result (λ found. FindGives B.spells found (pair_in (D.state disk.old))) }
     ensures checkpoint { IfOk result
         (λ found. IfSome found (λ found. IsCheckpoint B.spells found.value found.position)) }
-    ensures untouched { IsTrue D.honest → Untouched D.Disk disk.old disk.new }
+    ensures untouched { OnlyReads D.Disk disk.old disk.new }
     ensures cause { HasSaveCause (D.fault_count disk.old) (D.fault_count disk.new) result }
 {
     let read = match slot_of(alloc, disk, FileNo::Slot0, zero) {
@@ -139,13 +139,13 @@ fn find_in_second<D: Disk, B: Body>(
     zero: Option<Head>,
     one: Option<Head>,
 ) -> Result<Option<Found<B>>, SaveFault>
-    requires zero { IsTrue D.honest → HasHead zero (D.state disk.old).slot0.seen }
-    requires one { IsTrue D.honest → HasHead one (D.state disk.old).slot1.seen }
+    requires zero { IsTrue D.tells → HasHead zero (D.state disk.old).slot0.seen }
+    requires one { IsTrue D.tells → HasHead one (D.state disk.old).slot1.seen }
     requires order { is_below zero one ≡ true }
-    ensures exact { IsTrue D.honest → IfOk result (λ found. FindGives B.spells found (pair_in (D.state disk.old))) }
+    ensures exact { IsTrue D.tells → IfOk result (λ found. FindGives B.spells found (pair_in (D.state disk.old))) }
     ensures checkpoint { IfOk result
         (λ found. IfSome found (λ found. IsCheckpoint B.spells found.value found.position)) }
-    ensures untouched { IsTrue D.honest → Untouched D.Disk disk.old disk.new }
+    ensures untouched { OnlyReads D.Disk disk.old disk.new }
     ensures cause { HasSaveCause (D.fault_count disk.old) (D.fault_count disk.new) result }
 {
     let read = match slot_of(alloc, disk, FileNo::Slot1, one) {
@@ -177,10 +177,10 @@ pub(crate) fn find<D: Disk, B: Body>(
     alloc: Global,
     disk: &mut D,
 ) -> Result<Option<Found<B>>, SaveFault>
-    ensures exact { IsTrue D.honest → IfOk result (λ found. FindGives B.spells found (pair_in (D.state disk.old))) }
+    ensures exact { IsTrue D.tells → IfOk result (λ found. FindGives B.spells found (pair_in (D.state disk.old))) }
     ensures checkpoint { IfOk result
         (λ found. IfSome found (λ found. IsCheckpoint B.spells found.value found.position)) }
-    ensures untouched { IsTrue D.honest → Untouched D.Disk disk.old disk.new }
+    ensures untouched { OnlyReads D.Disk disk.old disk.new }
     ensures cause { HasSaveCause (D.fault_count disk.old) (D.fault_count disk.new) result }
 {
     let Ok(zero) = head_of(disk, FileNo::Slot0) else {
@@ -205,12 +205,12 @@ pub(crate) fn find<D: Disk, B: Body>(
 ///
 /// `StoreFault`: the disk failed. `NoMemory`: out of memory.
 pub fn load<D: Disk, B: Body>(alloc: Global, disk: &mut D) -> Result<Option<(B, u64)>, SaveFault>
-    ensures loaded { IsTrue D.honest → IfOk result (λ read. LoadGives B.spells read (pair_in (D.state disk.old))) }
+    ensures loaded { IsTrue D.tells → IfOk result (λ read. LoadGives B.spells read (pair_in (D.state disk.old))) }
 
-    // Also of a disk that is not honest.
+    // Also of a disk that does not tell what it reads.
     ensures checkpoint { IfOk result (λ read. IfSome read (λ read. IsCheckpoint B.spells read.0 read.1)) }
 
-    ensures untouched { IsTrue D.honest → Untouched D.Disk disk.old disk.new }
+    ensures untouched { OnlyReads D.Disk disk.old disk.new }
     ensures cause { HasSaveCause (D.fault_count disk.old) (D.fault_count disk.new) result }
 {
     match find(alloc, disk) {

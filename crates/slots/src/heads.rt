@@ -3,7 +3,7 @@ ghost use Rattle.std.specs.Prelude.{◌≡◌, ◌+◌, ◌≤◌, ℕ, List, Is
 ghost use Rattle.std.specs.Int.{w64, from_be_bytes, to_be_bytes};
 ghost use Rattle.office_base.specs.Faults.{HasCause};
 ghost use Rattle.disk_core.specs.Files.{seen_in};
-ghost use Rattle.disk_core.specs.Moments.{Untouched};
+ghost use Rattle.disk_core.specs.Moments.{OnlyReads};
 ghost use Rattle.slots.specs.Heads.{HasHead};
 
 use disk_core::{Disk, Failed, FileNo};
@@ -49,8 +49,8 @@ fn head_in(front: &[u8; 17], end: u64) -> Option<Head>
 
 // Reads the head of a slot; `None` if it is not open, or its body does not end within the file.
 pub(crate) fn head_of<D: Disk>(disk: &mut D, file: FileNo) -> Result<Option<Head>, Failed>
-    ensures exact { IsTrue D.honest → IfOk result (λ head. HasHead head (seen_in file (D.state disk.old))) }
-    ensures untouched { IsTrue D.honest → Untouched D.Disk disk.old disk.new }
+    ensures exact { IsTrue D.tells → IfOk result (λ head. HasHead head (seen_in file (D.state disk.old))) }
+    ensures untouched { OnlyReads D.Disk disk.old disk.new }
     ensures cause { HasCause (D.fault_count disk.old) (D.fault_count disk.new) result }
     ensures quiet { OnOk result (D.fault_count disk.new ≡ D.fault_count disk.old) }
 {

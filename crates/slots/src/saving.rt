@@ -1,11 +1,13 @@
 // Saves a checkpoint in the slot that is not loaded.
-ghost use Rattle.std.specs.Prelude.{◌≡◌, ℕ, IsTrue, IfOk, OnOk, IsErrOf};
+ghost use Rattle.std.specs.Prelude.{◌≡◌, ◌≢◌, ℕ, IsTrue, IfOk, OnOk, IsErrOf};
 ghost use Rattle.office_base.specs.Faults.{HasCause};
-ghost use Rattle.disk_core.specs.declared.disk.FileNo.TheVariants.{Slot0, Slot1};
-ghost use Rattle.disk_core.specs.Moments.{KeepsTo, Untouched};
+ghost use Rattle.disk_core.specs.declared.disk.FileNo.TheVariants.{Journal, Slot0, Slot1};
+ghost use Rattle.disk_core.specs.Files.{SameReads};
+ghost use Rattle.disk_core.specs.Moments.{KeepsTo, OnlyReads, Untouched, WritesNothing};
 ghost use Rattle.slots.specs.Causes.{HasSaveCause};
 ghost use Rattle.slots.specs.Loading.{IsLoaded, SparesLoaded, pair_in};
 ghost use Rattle.slots.specs.Saving.{NarrowerSlots, SyncedSlots, OldOrNew, EachKeeps, IsSaved, kept};
+ghost use Rattle.slots.specs.Synced.{LeavesSynced};
 
 use crate::body::Body;
 use crate::fault::SaveFault;
@@ -16,9 +18,10 @@ use std::alloc::Global;
 
 // The slot that is not loaded; the first slot if neither is.
 fn spare_slot<D: Disk, B: Body>(alloc: Global, disk: &mut D) -> Result<FileNo, SaveFault>
-    ensures spares { IsTrue D.honest → IfOk result
+    ensures spares { IsTrue D.tells → IfOk result
         (λ file. SparesLoaded B.spells file (pair_in (D.state disk.old))) }
-    ensures untouched { IsTrue D.honest → Untouched D.Disk disk.old disk.new }
+    ensures slot { IfOk result (λ file. file ≢ Journal) }
+    ensures untouched { OnlyReads D.Disk disk.old disk.new }
     ensures cause { HasSaveCause (D.fault_count disk.old) (D.fault_count disk.new) result }
 {
     match find::<D, B>(alloc, disk) {
@@ -37,6 +40,9 @@ fn spare_slot<D: Disk, B: Body>(alloc: Global, disk: &mut D) -> Result<FileNo, S
 fn sync_slots<D: Disk>(disk: &mut D) -> Result<(), Failed>
     ensures any_moment { IsTrue D.honest → KeepsTo D.Disk disk.old disk.new (NarrowerSlots (D.state disk.old)) }
     ensures done { IsTrue D.honest → OnOk result (SyncedSlots (D.state disk.old) (D.state disk.new)) }
+    ensures reads { IsTrue D.tells → OnOk result (SameReads (D.state disk.old) (D.state disk.new)) }
+    ensures writes { WritesNothing D.Disk disk.old disk.new }
+    ensures synced { OnOk result (LeavesSynced 2 (D.tally disk.old) (D.tally disk.new)) }
     ensures cause { HasCause (D.fault_count disk.old) (D.fault_count disk.new) result }
     ensures quiet { OnOk result (D.fault_count disk.new ≡ D.fault_count disk.old) }
 {
@@ -74,7 +80,14 @@ pub fn save<D: Disk, B: Body>(
     // After `Ok` each image has the new one.
     ensures saved { IsTrue D.honest → OnOk result (IsSaved (kept position body.now) (D.state disk.new)) }
 
+    // On every disk: after `Ok` each slot was synced after its last write, and four syncs or more were done.
+    ensures durable { OnOk result (LeavesSynced 4 (D.tally disk.old) (D.tally disk.new)) }
+
     ensures unchanged { IsTrue D.honest → IsErrOf result SaveFault.NoMemory → Untouched D.Disk disk.old disk.new }
+
+    // On every disk: out of memory nothing was written, cut or synced.
+    ensures unwritten { IsErrOf result SaveFault.NoMemory → D.tally disk.new ≡ D.tally disk.old }
+
     ensures cause { HasSaveCause (D.fault_count disk.old) (D.fault_count disk.new) result }
 {
     let file = match spare_slot::<D, B>(alloc, disk) {

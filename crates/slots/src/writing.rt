@@ -3,9 +3,10 @@ ghost use Rattle.std.specs.Prelude.{◌≡◌, ◌≢◌, ◌⊎◌, ◌+◌, �
 ghost use Rattle.office_base.specs.Faults.{HasCause};
 ghost use Rattle.disk_core.specs.Files.{put, file_in, seen_in, with_file, synced_file};
 ghost use Rattle.disk_core.specs.Fronts.{KeepsFront};
-ghost use Rattle.disk_core.specs.Moments.{KeepsTo, Untouched};
+ghost use Rattle.disk_core.specs.Moments.{KeepsTo, OnlyReads};
 ghost use Rattle.slots.specs.Slots.{text_of};
 ghost use Rattle.slots.specs.Saving.{Kept, kept, OnlyIn, IsInPart, IsShut, IsToShut, HasOldOrNew, IsWritten};
+ghost use Rattle.slots.specs.Synced.{KeepsSynced};
 
 use crate::heads::OPEN;
 use disk_core::{Disk, Failed, FileNo};
@@ -20,6 +21,7 @@ fn put_synced<D: Disk>(disk: &mut D, file: FileNo, at: u64, bytes: &[u8]) -> Res
     ensures done { IsTrue D.honest → OnOk result (D.state disk.new
         ≡ with_file file (synced_file (put at bytes.now (seen_in file (D.state disk.old)))) (D.state disk.old)) }
 
+    ensures synced { OnOk result (KeepsSynced file 1 (D.tally disk.old) (D.tally disk.new)) }
     ensures cause { HasCause (D.fault_count disk.old) (D.fault_count disk.new) result }
     ensures quiet { OnOk result (D.fault_count disk.new ≡ D.fault_count disk.old) }
 {
@@ -29,10 +31,10 @@ fn put_synced<D: Disk>(disk: &mut D, file: FileNo, at: u64, bytes: &[u8]) -> Res
 
 // Whether a slot has a gate, and it is not open.
 fn is_shut<D: Disk>(disk: &mut D, file: FileNo) -> Result<bool, Failed>
-    ensures yes { IsTrue D.honest → IfOk result (λ shut. IsTrue shut → IsShut (seen_in file (D.state disk.old))) }
-    ensures no { IsTrue D.honest → IfOk result
+    ensures yes { IsTrue D.tells → IfOk result (λ shut. IsTrue shut → IsShut (seen_in file (D.state disk.old))) }
+    ensures no { IsTrue D.tells → IfOk result
         (λ shut. (IsTrue shut → ⊥) → IsToShut (seen_in file (D.state disk.old))) }
-    ensures untouched { IsTrue D.honest → Untouched D.Disk disk.old disk.new }
+    ensures untouched { OnlyReads D.Disk disk.old disk.new }
     ensures cause { HasCause (D.fault_count disk.old) (D.fault_count disk.new) result }
     ensures quiet { OnOk result (D.fault_count disk.new ≡ D.fault_count disk.old) }
 {
@@ -57,6 +59,7 @@ fn shut<D: Disk>(disk: &mut D, file: FileNo) -> Result<(), Failed>
         → OnOk result ((bytes : List ℕ) × IsShut bytes
         × (D.state disk.new ≡ with_file file (synced_file bytes) (D.state disk.old))) }
 
+    ensures synced { OnOk result (KeepsSynced file 0 (D.tally disk.old) (D.tally disk.new)) }
     ensures cause { HasCause (D.fault_count disk.old) (D.fault_count disk.new) result }
     ensures quiet { OnOk result (D.fault_count disk.new ≡ D.fault_count disk.old) }
 {
@@ -77,6 +80,7 @@ fn write_text<D: Disk>(disk: &mut D, file: FileNo, position: u64, body: &[u8]) -
         (synced_file (put 1 (text_of position body.now) (seen_in file (D.state disk.old)))) (D.state disk.old)) }
 
     ensures small { length body.now < 2 ^ 64 }
+    ensures synced { OnOk result (KeepsSynced file 1 (D.tally disk.old) (D.tally disk.new)) }
     ensures cause { HasCause (D.fault_count disk.old) (D.fault_count disk.new) result }
     ensures quiet { OnOk result (D.fault_count disk.new ≡ D.fault_count disk.old) }
 {
@@ -102,6 +106,7 @@ pub(crate) fn write_slot<D: Disk>(
         → OnOk result (IsWritten file (kept position body.now) (D.state disk.old)
         (D.state disk.new)) }
 
+    ensures synced { OnOk result (KeepsSynced file 2 (D.tally disk.old) (D.tally disk.new)) }
     ensures cause { HasCause (D.fault_count disk.old) (D.fault_count disk.new) result }
     ensures quiet { OnOk result (D.fault_count disk.new ≡ D.fault_count disk.old) }
 {

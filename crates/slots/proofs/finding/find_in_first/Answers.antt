@@ -16,7 +16,7 @@ returns-in-Some-read-clause-exact g c told =
     let first_none = subst (λ (o : Option (g.row.B.Denot × ℕ)). ReadGives g.B.Body.spells o slots.slot0) c.in_default.is (c.in-Ok.ensures.exact told) in
     let mid = g.D.Disk.state c.slot_of.new.disk in
     let second = subst (λ (o : Option (g.row.B.Denot × ℕ)). ReadGives g.B.Body.spells o mid.slot1.seen) c.in-Some-read.is (c.in-Ok-slot_of.ensures.exact told) in
-    let same = ap (λ (s : State). s.slot1.seen) (c.slot_of.ensures.untouched told).now in
+    let same = ap (λ (s : State). s.slot1.seen) (c.slot_of.ensures.untouched.files told).now in
     second_alone slots c.in-Some-read.value c.in-Some-read.position
     (subst (ReadGives g.B.Body.spells (Some (c.in-Some-read.value, c.in-Some-read.position))) same second) first_none
 
@@ -26,5 +26,5 @@ returns-in-None-clause-exact g c told =
     let first_none = subst (λ (o : Option (g.row.B.Denot × ℕ)). ReadGives g.B.Body.spells o slots.slot0) c.in_default.is (c.in-Ok.ensures.exact told) in
     let mid = g.D.Disk.state c.slot_of.new.disk in
     let second = subst (λ (o : Option (g.row.B.Denot × ℕ)). ReadGives g.B.Body.spells o mid.slot1.seen) c.in-None.is (c.in-Ok-slot_of.ensures.exact told) in
-    let same = ap (λ (s : State). s.slot1.seen) (c.slot_of.ensures.untouched told).now in
+    let same = ap (λ (s : State). s.slot1.seen) (c.slot_of.ensures.untouched.files told).now in
     record { slot0 = first_none; slot1 = subst (ReadGives g.B.Body.spells None) same second }

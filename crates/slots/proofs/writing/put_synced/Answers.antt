@@ -1,9 +1,11 @@
 use Rattle.std.proofs.Common.{◌≤◌, length, subst}
+use Rattle.std.proofs.lemmas.Result.{on_ok_weaker}
 use Rattle.disk_core.specs.Files.{File, file_in}
 use Rattle.disk_core.proofs.Time.{started, goes_on}
 use Rattle.slots.specs.Saving.{OnlyIn, IsInPart}
 use Rattle.slots.proofs.OneFile.{only_start, only_wrote, only_after_sync}
 use Rattle.slots.proofs.Parts.{part_start, part_wrote, part_synced, part_reread}
+use Rattle.slots.proofs.Tallied.{wrote_one, synced_last}
 use Rattle.slots.proofs.writing.put_synced.Goals as goal
 
 pub returns-in_err-write_at-clause-any_moment : goal.returns-in_err-write_at-clause-any_moment
@@ -42,3 +44,6 @@ returns-clause-any_moment g c told bytes is =
     (part_synced at n bytes (file_in file mid) wrote.now.here own)
     (λ seen image. part_reread at n bytes seen (file_in file mid) wrote.now.here)
     (c.sync.ensures.done told) (c.sync.ensures.state told))
+
+pub returns-clause-synced : goal.returns-clause-synced
+returns-clause-synced g c = on_ok_weaker c.sync.result (λ is. synced_last (wrote_one c.write_at.ensures.tally) is) c.sync.ensures.synced

@@ -7,6 +7,7 @@ use Rattle.slots.specs.Slots.{text_of}
 use Rattle.slots.specs.Saving.{kept, OnlyIn, HasOldOrNew, IsInPart}
 use Rattle.slots.proofs.OneFile.{in-with, with-with, only_weaker, only_from}
 use Rattle.slots.proofs.Parts.{behind_shut, while_opened, front_of_shut, with_text, opened_slot}
+use Rattle.slots.proofs.Tallied.{keeps_then}
 use Rattle.slots.proofs.writing.write_slot.Goals as goal
 
 pub returns-in_err-shut-clause-any_moment : goal.returns-in_err-shut-clause-any_moment
@@ -93,3 +94,8 @@ returns-clause-done g c told bytes is =
     (λ now. opened_slot file new gate tail (seen_in file next) written first next (d.state c.put_synced.new.disk)
     c.ranges.position.fits c.write_text.ensures.small seen_next from_first now)
     (c.put_synced.ensures.done told)
+
+pub returns-clause-synced : goal.returns-clause-synced
+returns-clause-synced g c =
+    let text = keeps_then 0 1 c.in_ok-shut.ensures.synced c.in_ok-write_text.ensures.synced in
+    on_ok_weaker c.put_synced.result (λ gate. keeps_then 1 1 text gate) c.put_synced.ensures.synced

@@ -1,4 +1,5 @@
 use Rattle.std.proofs.Common.{◌≡◌, ◌++◌, ℕ, List, length, ap, ◌∙◌, arith, rules, length-append}
+use Rattle.std.proofs.lemmas.Result.{on_ok_weaker}
 use Rattle.std.specs.Int.{w64, to_be_bytes}
 use Rattle.disk_core.specs.Files.{put, seen_in}
 use Rattle.disk_core.specs.Fronts.{KeepsFront}
@@ -9,6 +10,7 @@ use Rattle.slots.specs.Slots.{text_of}
 use Rattle.slots.specs.Saving.{OnlyIn}
 use Rattle.slots.proofs.OneFile.{only_start, synced_from, any_file, only_any}
 use Rattle.slots.proofs.Fronts.{front_on, front_synced_on}
+use Rattle.slots.proofs.Tallied.{wrote_one, wrote_more, synced_last}
 use Rattle.slots.proofs.writing.write_text.Goals as goal
 
 pub returns-in_err-write_at-clause-any_moment : goal.returns-in_err-write_at-clause-any_moment
@@ -104,3 +106,8 @@ returns-clause-done g c told =
     let kept = only_any (only_any (only_any (any_file file first) (c.write_at.ensures.state told)) (c.write_at-2.ensures.state told)) (c.write_at-3.ensures.state told) in
     synced_from c.sync.result (λ f. Unit {0}) file first (state c.write_at-3.new.self) (state c.sync.new.self)
     (put 1 (text_of c.args.position body) seen) kept three (c.sync.ensures.done told)
+
+pub returns-clause-synced : goal.returns-clause-synced
+returns-clause-synced g c =
+    let wrote = wrote_more (wrote_more (wrote_one c.write_at.ensures.tally) c.write_at-2.ensures.tally) c.write_at-3.ensures.tally in
+    on_ok_weaker c.sync.result (λ is. synced_last wrote is) c.sync.ensures.synced
