@@ -27,6 +27,7 @@ use Rattle.slots.specs.declared.fault.SaveFault.{SaveFault}
 use Rattle.slots.specs.declared.fault.SaveFault.TheVariants as faults
 use Rattle.meter_journal.proofs.History.{end_gate-none}
 use Rattle.desk_core.specs.Answers.{Call}
+use Rattle.slots.specs.Synced.{LeavesSynced}
 use Rattle.desk_core.specs.Closing.{IsToSave, LoadsTheEnd, Closes}
 use Rattle.desk_core.specs.Desk.{DeskView, HoldsHistory, IsReady, StandsFor}
 use Rattle.desk_core.specs.Serving.{Opened}
@@ -94,6 +95,7 @@ module _ {D C : Type 0} {d : disks.Ghosts D} (laws : DiskLaws d) (desk : DeskVie
   pub left_alone : (new : D) (saved : Result (Unit {0}) SaveFault) → new ≡ desk.disk → IsOk saved → (IsToSave desk → ⊥) → Closes d desk new saved
   left_alone new saved same well none = subst (λ (z : D). Closes d desk z saved) (sym same) (record {
     untouched = λ _. (refl, well);
+    durable = λ to_save. absurd (none to_save);
     journal = λ tells. started d desk.disk (λ s. s.journal ≡ first.journal) (laws.only_now desk.disk) refl;
     sound = λ opened calls stands sound. started d desk.disk IsSound (laws.only_now desk.disk) sound;
     kept = λ opened calls stands sound to_save. absurd (none to_save);
@@ -104,6 +106,7 @@ module _ {D C : Type 0} {d : disks.Ghosts D} (laws : DiskLaws d) (desk : DeskVie
       → (IsTrue d.honest → Untouched d desk.disk new) → Closes d desk new saved
   kept_out new saved fault fresh grown still = record {
     untouched = λ either. ⊎_elim (λ stale. absurd (both_ways desk.stale fresh stale)) (λ same. absurd (grown same)) either;
+    durable = λ _. by (LeavesSynced 4 (d.tally desk.disk) (d.tally new)) saved fault;
     journal = λ tells. weakened (λ s. s.journal ≡ first.journal) (still tells) (λ s same. ap (λ (x : State). x.journal) same);
     sound = λ opened calls stands sound. weakened IsSound (still stands.tells) (λ s same. subst IsSound (sym same) sound);
     kept = λ opened calls stands sound to_save. by ((images : Images) → AreImages (d.state new) images → LoadsTheEnd desk images) saved fault;
@@ -123,7 +126,8 @@ module _ {D C : Type 0} {d : disks.Ghosts D} (laws : DiskLaws d) (desk : DeskVie
       (form : HasForm snapshot) (whole : AreWhole snapshot)
       (shows : (office : Office) → machine.StandsFor desk.office office → Shows snapshot office) (fresh : desk.stale ≡ false) (grown : desk.gate ≢ desk.opened_at)
       (run : IsTrue d.honest → KeepsTo d desk.disk new (OldOrNew (record { position = desk.gate; body = body }) first))
-      (done : IsTrue d.honest → OnOk saved (IsSaved (record { position = desk.gate; body = body }) (d.state new))) where
+      (done : IsTrue d.honest → OnOk saved (IsSaved (record { position = desk.gate; body = body }) (d.state new)))
+      (synced : OnOk saved (LeavesSynced 4 (d.tally desk.disk) (d.tally new))) where
     held : (opened : Opened) (calls : List Call) → StandsFor d opened calls desk → (history : List Entry) × HoldsHistory d history desk
     held opened calls stands = let h = stands.holds fresh in (h.0, h.2)
 
@@ -154,6 +158,7 @@ module _ {D C : Type 0} {d : disks.Ghosts D} (laws : DiskLaws d) (desk : DeskVie
     pub closes : Closes d desk new saved
     closes = record {
       untouched = λ either. ⊎_elim (λ stale. absurd (both_ways desk.stale fresh stale)) (λ same. absurd (grown same)) either;
+      durable = λ _. synced;
       journal = λ tells. weakened (λ s. s.journal ≡ first.journal) (run tells) (λ s both. both.journal);
       sound = sound_run;
       kept = λ opened calls stands sound to_save. on_saved saved (loads opened calls stands sound) (done stands.tells);
@@ -166,12 +171,13 @@ module _ {D C : Type 0} {d : disks.Ghosts D} (laws : DiskLaws d) (desk : DeskVie
       (run : IsTrue d.honest → KeepsTo d desk.disk new (OldOrNew (record { position = desk.gate; body = body }) first)) where
     pub closes_by : (saved : Result (Unit {0}) SaveFault) → (IsRestorable snapshot → (IsErrOf saved faults.NoMemory → ⊥) → Spells body snapshot)
         → (IsTrue d.honest → IsErrOf saved faults.NoMemory → Untouched d desk.disk new)
-        → (IsTrue d.honest → OnOk saved (IsSaved (record { position = desk.gate; body = body }) (d.state new))) → Closes d desk new saved
-    closes_by (Ok x) spelled unchanged done =
-        closes one_value new (Ok x) snapshot body (λ restorable. spelled restorable (λ e. absurd cc)) form whole shows fresh grown run done
-    closes_by (Err faults.StoreFault) spelled unchanged done =
-        closes one_value new (Err faults.StoreFault) snapshot body (λ restorable. spelled restorable (λ e. absurd cc)) form whole shows fresh grown run done
-    closes_by (Err faults.NoMemory) spelled unchanged done = kept_out new (Err faults.NoMemory) refl fresh grown (λ tells. unchanged tells refl)
+        → (IsTrue d.honest → OnOk saved (IsSaved (record { position = desk.gate; body = body }) (d.state new)))
+        → OnOk saved (LeavesSynced 4 (d.tally desk.disk) (d.tally new)) → Closes d desk new saved
+    closes_by (Ok x) spelled unchanged done synced =
+        closes one_value new (Ok x) snapshot body (λ restorable. spelled restorable (λ e. absurd cc)) form whole shows fresh grown run done synced
+    closes_by (Err faults.StoreFault) spelled unchanged done synced =
+        closes one_value new (Err faults.StoreFault) snapshot body (λ restorable. spelled restorable (λ e. absurd cc)) form whole shows fresh grown run done synced
+    closes_by (Err faults.NoMemory) spelled unchanged done synced = kept_out new (Err faults.NoMemory) refl fresh grown (λ tells. unchanged tells refl)
 
 -- ---- what a snapshot of the desk's office keeps
 

@@ -3,6 +3,7 @@ use Rattle.std.specs.Prelude.{◌≡◌, ◌≢◌, ◌⊎◌, ℕ, true, false,
 use Rattle.disk_core.specs.declared.disk.Disk as disks
 use Rattle.disk_core.specs.Moments.{KeepsTo}
 use Rattle.slots.specs.Loading.{IsLoaded}
+use Rattle.slots.specs.Synced.{LeavesSynced}
 use Rattle.slots.specs.declared.fault.SaveFault.{SaveFault}
 use Rattle.office_snapshot.specs.Snapshots.{SnapshotRecord}
 use Rattle.checkpoint.specs.Bodies.{Spells}
@@ -27,6 +28,9 @@ LoadsTheEnd desk images = (snapshot : SnapshotRecord) (position : ℕ)
 pub record Closes {D C : Type 0} (d : disks.Ghosts D) (desk : DeskView D C) (new : D)
     (saved : Result (Unit {0}) SaveFault) : Type 0 where
   pub untouched : (desk.stale ≡ true) ⊎ (desk.gate ≡ desk.opened_at) → (new ≡ desk.disk) × IsOk saved
+  -- on every disk: where a checkpoint was saved, four syncs or more were done, and each slot was synced after its last
+  -- write
+  pub durable : IsToSave desk → OnOk saved (LeavesSynced 4 (d.tally desk.disk) (d.tally new))
   pub journal : IsTrue d.honest → KeepsTo d desk.disk new (λ s. s.journal ≡ (d.state desk.disk).journal)
   -- a disk that is sound stays so, at every moment
   pub sound : (opened : Opened) (calls : List Call) → StandsFor d opened calls desk

@@ -3,6 +3,7 @@ use Rattle.std.specs.Prelude.{OnOk}
 use Rattle.disk_core.specs.Moments.{KeepsTo, Untouched}
 use Rattle.disk_core.proofs.Laws.{laws_of}
 use Rattle.slots.specs.Saving.{OldOrNew, IsSaved, kept}
+use Rattle.slots.specs.Synced.{LeavesSynced}
 use Rattle.checkpoint.specs.Bodies.{body_format}
 use Rattle.checkpoint.proofs.BodyLaws.{one_value}
 use Rattle.desk_core.specs.Closing.{IsToSave, Closes}
@@ -44,4 +45,5 @@ returns-clause-closes g c =
     (c.save.ensures.any_moment tells)))
     c.save.result c.save.ensures.spelled
     (λ tells out. subst (λ (x : g.row.D.Denot). Untouched d x new) c.disk_mut.ensures.value (c.save.ensures.unchanged tells out))
-    (λ tells. subst (λ (k : ℕ). OnOk c.save.result (IsSaved (kept k body) (d.state new))) c.end-position.ensures (c.save.ensures.saved tells)))
+    (λ tells. subst (λ (k : ℕ). OnOk c.save.result (IsSaved (kept k body) (d.state new))) c.end-position.ensures (c.save.ensures.saved tells))
+    (subst (λ (x : g.row.D.Denot). OnOk c.save.result (LeavesSynced 4 (d.tally x) (d.tally new))) c.disk_mut.ensures.value c.save.ensures.durable))
