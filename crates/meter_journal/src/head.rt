@@ -1,9 +1,10 @@
 // The first bytes of a journal file, and all of them.
-ghost use Rattle.std.specs.Prelude.{◌≡◌, ◌⊎◌, ◌≤◌, List, ℕ, IsTrue, length, take, IfOk, IfErr, OnOk, IsErrOf};
+ghost use Rattle.std.specs.Prelude.{◌≡◌, ◌⊎◌, ◌≤◌, List, ℕ, IsTrue, false, length, take, IfOk, IfErr};
+ghost use Rattle.std.specs.Prelude.{OnOk, IsErrOf};
 ghost use Rattle.office_base.specs.Faults.{HasCause};
-ghost use Rattle.disk_core.specs.Files.{synced_file};
+ghost use Rattle.disk_core.specs.Files.{SameReads, synced_file};
 ghost use Rattle.disk_core.specs.Fronts.{Narrower};
-ghost use Rattle.disk_core.specs.Moments.{KeepsTo, Untouched};
+ghost use Rattle.disk_core.specs.Moments.{KeepsTo, OnlyReads, WritesNothing};
 ghost use Rattle.meter_journal.specs.History.{IsNoLonger};
 ghost use Rattle.meter_journal.specs.Reading.{HeadGives, HasStoreCause};
 ghost use Rattle.meter_journal.specs.declared.fault.OpenFault.TheVariants.{StoreFault, NoMemory};
@@ -43,6 +44,9 @@ pub(crate) fn sync_journal<D: Disk>(disk: &mut D) -> Result<(), Failed>
         → KeepsTo D.Disk disk.old disk.new (IsNoLonger n) }
     ensures done { IsTrue D.honest → OnOk result ((D.state disk.new).journal
         ≡ synced_file (D.state disk.old).journal.seen) }
+    ensures reads { IsTrue D.tells → OnOk result (SameReads (D.state disk.old) (D.state disk.new)) }
+    ensures writes { WritesNothing D.Disk disk.old disk.new }
+    ensures synced { OnOk result ((D.tally disk.new).journal ≡ false) }
     ensures cause { HasCause (D.fault_count disk.old) (D.fault_count disk.new) result }
     ensures quiet { OnOk result (D.fault_count disk.new ≡ D.fault_count disk.old) }
 {
@@ -51,9 +55,9 @@ pub(crate) fn sync_journal<D: Disk>(disk: &mut D) -> Result<(), Failed>
 
 // Reads the first bytes of a journal file of this length.
 fn check_head<D: Disk>(disk: &mut D, end: u64) -> Result<(), OpenFault>
-    requires known { IsTrue D.honest → end ≡ length (D.state disk.old).journal.seen }
-    ensures exact { IsTrue D.honest → HeadGives result (D.state disk.old).journal.seen }
-    ensures untouched { IsTrue D.honest → Untouched D.Disk disk.old disk.new }
+    requires known { IsTrue D.tells → end ≡ length (D.state disk.old).journal.seen }
+    ensures exact { IsTrue D.tells → HeadGives result (D.state disk.old).journal.seen }
+    ensures untouched { OnlyReads D.Disk disk.old disk.new }
     ensures cause { HasStoreCause (D.fault_count disk.old) (D.fault_count disk.new) result }
 {
     if end < 11 {
@@ -68,13 +72,17 @@ fn check_head<D: Disk>(disk: &mut D, end: u64) -> Result<(), OpenFault>
 
 // Syncs the journal file, and reads its length where it is made.
 pub(crate) fn look<D: Disk>(disk: &mut D) -> Result<u64, OpenFault>
-    ensures exact { IsTrue D.honest → HeadGives result (D.state disk.old).journal.seen }
-    ensures size { IsTrue D.honest → IfOk result (λ n. n ≡ length (D.state disk.old).journal.seen) }
+    ensures exact { IsTrue D.tells → HeadGives result (D.state disk.old).journal.seen }
+    ensures size { IsTrue D.tells → IfOk result (λ n. n ≡ length (D.state disk.old).journal.seen) }
     ensures any_moment { IsTrue D.honest → KeepsTo D.Disk disk.old disk.new (Narrower (D.state disk.old)) }
     ensures room { IsTrue D.honest → (n : ℕ) → IsNoLonger n (D.state disk.old)
         → KeepsTo D.Disk disk.old disk.new (IsNoLonger n) }
     ensures done { IsTrue D.honest → (IsErrOf result OpenFault.StoreFault → ⊥)
         → (D.state disk.new).journal ≡ synced_file (D.state disk.old).journal.seen }
+    ensures reads { IsTrue D.tells → (IsErrOf result OpenFault.StoreFault → ⊥)
+        → SameReads (D.state disk.old) (D.state disk.new) }
+    ensures writes { WritesNothing D.Disk disk.old disk.new }
+    ensures synced { OnOk result ((D.tally disk.new).journal ≡ false) }
     ensures cause { HasStoreCause (D.fault_count disk.old) (D.fault_count disk.new) result }
 {
     if sync_journal(disk).is_err() {
@@ -95,9 +103,9 @@ pub(crate) fn look<D: Disk>(disk: &mut D) -> Result<u64, OpenFault>
 ///
 /// `StoreFault`: the disk did not do a call. `NoMemory`: memory for the bytes ran out. The files are as they were.
 pub fn read_all<D: Disk>(alloc: Global, disk: &mut D) -> Result<Vec<u8>, OpenFault>
-    ensures bytes { IsTrue D.honest → IfOk result (λ bytes. bytes.items ≡ (D.state disk.old).journal.seen) }
+    ensures bytes { IsTrue D.tells → IfOk result (λ bytes. bytes.items ≡ (D.state disk.old).journal.seen) }
     ensures err { IfErr result (λ e. (e ≡ StoreFault) ⊎ (e ≡ NoMemory)) }
-    ensures untouched { IsTrue D.honest → Untouched D.Disk disk.old disk.new }
+    ensures untouched { OnlyReads D.Disk disk.old disk.new }
     ensures cause { HasStoreCause (D.fault_count disk.old) (D.fault_count disk.new) result }
 {
     let Ok(end) = disk.length(FileNo::Journal) else {

@@ -3,9 +3,10 @@ ghost use Rattle.std.specs.Prelude.{◌≡◌, ◌+◌, ◌<◌, ◌≤◌, ◌^
 ghost use Rattle.std.specs.Prelude.{IfErr, IfSome, Err, IsErrOf, ◌↔◌, min};
 ghost use Rattle.std.specs.Borrow.{follows, sem};
 ghost use Rattle.office_base.specs.Faults.{Rose, HasCause};
-ghost use Rattle.disk_core.specs.Files.{synced_file};
+ghost use Rattle.disk_core.specs.Files.{SameReads, synced_file};
 ghost use Rattle.disk_core.specs.Fronts.{Narrower};
-ghost use Rattle.disk_core.specs.Moments.{KeepsTo, Untouched};
+ghost use Rattle.disk_core.specs.Tallies.{IsDurable};
+ghost use Rattle.disk_core.specs.Moments.{KeepsTo, OnlyReads, WritesNothing};
 ghost use Rattle.office_types.specs.declared.command.Entry.{Entry};
 ghost use Rattle.entry_codec.specs.Spelling.{IsEntry, EntryFits, entry_limit, spelling};
 ghost use Rattle.meter_journal.specs.History.{IsAtRest, IsNoLonger, BeforeOrAfter};
@@ -72,6 +73,7 @@ fn commit<D: Disk>(disk: &mut D, gate: u64, entry: &[u8], limit: u64) -> Result<
         → min limit (gate + 6 + length entry.now + 4095) ≤ n → IsNoLonger n (D.state disk.old)
         → KeepsTo D.Disk disk.old disk.new (IsNoLonger n) }
 
+    ensures durable { OnOk result (IsDurable (D.tally disk.old) (D.tally disk.new)) }
     ensures cause { HasCause (D.fault_count disk.old) (D.fault_count disk.new) result }
     ensures quiet { OnOk result (D.fault_count disk.new ≡ D.fault_count disk.old) }
 {
@@ -109,11 +111,12 @@ impl<D: Disk> Journal<D> {
     pub fn open(&mut self, from: Option<u64>) -> Result<u64, OpenFault>
         requires from { IfSome from (λ place. 10 ≤ place) }
 
-        ensures ok { IsTrue D.honest → IfOk result (λ end. IsMade (D.state self.old.disk).journal.seen
-            × (end ≡ length (D.state self.new.disk).journal.seen)
-            × ((D.state self.new.disk).journal ≡ synced_file (D.state self.old.disk).journal.seen)) }
+        ensures ok { IsTrue D.tells → IfOk result (λ end. IsMade (D.state self.old.disk).journal.seen
+            × (end ≡ length (D.state self.new.disk).journal.seen)) }
+        ensures synced { IsTrue D.honest → OnOk result ((D.state self.new.disk).journal
+            ≡ synced_file (D.state self.old.disk).journal.seen) }
         ensures start { OnOk result (self.new.gate ≡ from_or_first from) }
-        ensures err { IsTrue D.honest → IfErr result (λ e. HeadGives {T = ℕ} (Err e)
+        ensures err { IsTrue D.tells → IfErr result (λ e. HeadGives {T = ℕ} (Err e)
             (D.state self.old.disk).journal.seen) }
 
         // A refused file is as it was, and on the disk.
@@ -122,6 +125,12 @@ impl<D: Disk> Journal<D> {
 
         ensures any_moment { IsTrue D.honest → KeepsTo D.Disk self.old.disk self.new.disk
             (Narrower (D.state self.old.disk)) }
+
+        // Where no call of the disk failed, its files read as before. On every disk nothing is written.
+        ensures reads { IsTrue D.tells → (IsErrOf result OpenFault.StoreFault → ⊥)
+            → SameReads (D.state self.old.disk) (D.state self.new.disk) }
+        ensures writes { WritesNothing D.Disk self.old.disk self.new.disk }
+
         ensures limit { self.new.limit ≡ self.old.limit }
         ensures cause { HasStoreCause (D.fault_count self.old.disk) (D.fault_count self.new.disk) result }
     {
@@ -147,15 +156,15 @@ impl<D: Disk> Journal<D> {
     /// it is open and the frame's length, its entry or the next gate ends past the end or past 2^45 bytes, or the
     /// frame holds no entry. `StoreFault`: the disk did not do a call. `NoMemory`: memory for the entry ran out.
     pub fn next(&mut self, alloc: Global, end: u64) -> Result<Option<Entry>, OpenFault>
-        requires known { IsTrue D.honest → end ≡ length (D.state self.old.disk).journal.seen }
-        ensures exact { IsTrue D.honest → NextGives result self.old.gate self.new.gate
+        requires known { IsTrue D.tells → end ≡ length (D.state self.old.disk).journal.seen }
+        ensures exact { IsTrue D.tells → NextGives result self.old.gate self.new.gate
             (frame_at self.old.gate (D.state self.old.disk).journal.seen) }
-        ensures untouched { IsTrue D.honest → Untouched D.Disk self.old.disk self.new.disk }
+        ensures untouched { OnlyReads D.Disk self.old.disk self.new.disk }
         ensures cause { HasStoreCause (D.fault_count self.old.disk) (D.fault_count self.new.disk) result }
         ensures rises { IfOk result (λ read. IfSome read (λ e. (self.old.gate < self.new.gate)
             × (self.new.gate ≤ 2 ^ 45))) }
         // Memory is wanting only for a frame that claims no more than an entry may have.
-        ensures memory { IsTrue D.honest → IsErrOf result OpenFault.NoMemory
+        ensures memory { IsTrue D.tells → IsErrOf result OpenFault.NoMemory
             → size_at self.old.gate (D.state self.old.disk).journal.seen ≤ entry_limit }
         // On every disk: what is read is an entry in range, and its frame is passed over.
         ensures advances { Advances result self.old.gate self.new.gate }
@@ -215,6 +224,9 @@ impl<D: Disk> Journal<D> {
             → min self.old.limit (self.old.gate + 6 + length entry.now + 4095) ≤ n
             → IsNoLonger n (D.state self.old.disk)
             → KeepsTo D.Disk self.old.disk self.new.disk (IsNoLonger n) }
+
+        // On every disk: after `Ok` two syncs were done, and nothing of the journal is left to be synced.
+        ensures durable { OnOk result (IsDurable (D.tally self.old.disk) (D.tally self.new.disk)) }
 
         ensures place { IfOk result (λ place. (place ≡ self.new.gate)
             × (place ≡ self.old.gate + 5 + length entry.now)) }

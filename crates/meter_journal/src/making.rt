@@ -1,13 +1,14 @@
 // Making a journal file.
 ghost use Rattle.std.specs.Prelude.{◌≡◌, ◌+◌, ◌≤◌, ◌<◌, [], List, ℕ, IsTrue, length, IfOk, OnOk, IfErr};
-ghost use Rattle.std.specs.Prelude.{IsErrOf};
+ghost use Rattle.std.specs.Prelude.{IsErrOf, false};
 ghost use Rattle.office_base.specs.Faults.{HasCause};
 ghost use Rattle.disk_core.specs.Files.{put, synced_file};
 ghost use Rattle.disk_core.specs.Fronts.{Narrower};
-ghost use Rattle.disk_core.specs.Moments.{KeepsTo};
+ghost use Rattle.disk_core.specs.Moments.{KeepsTo, WritesNothing};
 ghost use Rattle.meter_journal.specs.History.{IsAtRest, IsNoLonger, header};
 ghost use Rattle.meter_journal.specs.Created.{Bounded, NoneOrEmpty, BeforeOrEmpty};
 ghost use Rattle.meter_journal.specs.Reading.{IsMade, IsNotMade, CreateFails, HasStoreCause};
+ghost use Rattle.meter_journal.specs.declared.fault.OpenFault.TheVariants.{StoreFault};
 
 use crate::fault::OpenFault;
 use crate::gate::open_gate;
@@ -64,6 +65,7 @@ fn make<D: Disk>(disk: &mut D) -> Result<(), Failed>
     ensures room { IsTrue D.honest → (n : ℕ) → 11 ≤ n → IsNoLonger n (D.state disk.old)
         → KeepsTo D.Disk disk.old disk.new (IsNoLonger n) }
 
+    ensures synced { OnOk result ((D.tally disk.new).journal ≡ false) }
     ensures cause { HasCause (D.fault_count disk.old) (D.fault_count disk.new) result }
     ensures quiet { OnOk result (D.fault_count disk.new ≡ D.fault_count disk.old) }
 {
@@ -116,6 +118,11 @@ pub fn create<D: Disk>(disk: &mut D) -> Result<Made, OpenFault>
     // It gets no longer than 11 bytes.
     ensures room { IsTrue D.honest → (n : ℕ) → 11 ≤ n → IsNoLonger n (D.state disk.old)
         → KeepsTo D.Disk disk.old disk.new (IsNoLonger n) }
+
+    // On every disk: one that is made or foreign is not written, and after `Ok` nothing of it is left to be synced.
+    ensures writes { IfOk result (λ m. m ≡ Made.Before → WritesNothing D.Disk disk.old disk.new) }
+    ensures writes_err { IfErr result (λ e. (e ≡ StoreFault → ⊥) → WritesNothing D.Disk disk.old disk.new) }
+    ensures synced { OnOk result ((D.tally disk.new).journal ≡ false) }
 
     ensures cause { HasStoreCause (D.fault_count disk.old) (D.fault_count disk.new) result }
 {

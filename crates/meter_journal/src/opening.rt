@@ -2,9 +2,9 @@
 ghost use Rattle.std.specs.Prelude.{◌≡◌, ◌<◌, ◌≤◌, ◌^◌, ℕ, IsTrue, IsErrOf, length, IfOk, IfErr, IfSome, Err};
 ghost use Rattle.office_base.specs.Faults.{Rose};
 ghost use Rattle.entry_codec.specs.Spelling.{entry_limit};
-ghost use Rattle.disk_core.specs.Files.{synced_file};
+ghost use Rattle.disk_core.specs.Files.{SameReads, synced_file};
 ghost use Rattle.disk_core.specs.Fronts.{Narrower};
-ghost use Rattle.disk_core.specs.Moments.{KeepsTo, Untouched};
+ghost use Rattle.disk_core.specs.Moments.{KeepsTo, OnlyReads, WritesNothing};
 ghost use Rattle.meter_journal.specs.Reading.{frame_at, size_at, NextGives, HeadGives, IsMade, HasStoreCause};
 ghost use Rattle.meter_journal.specs.Reading.{from_or_first, Advances};
 ghost use Rattle.meter_journal.specs.declared.fault.OpenFault.TheVariants.{StoreFault};
@@ -51,11 +51,12 @@ impl<D: Disk> Opening<D> {
         requires limit { limit ≤ 2 ^ 45 }
         requires from { IfSome from (λ place. 10 ≤ place) }
 
-        ensures ok { IsTrue D.honest → IfOk result (λ o. IsMade (D.state disk).journal.seen
-            × (o.length ≡ length (D.state o.disk).journal.seen)
-            × ((D.state o.disk).journal ≡ synced_file (D.state disk).journal.seen)) }
+        ensures ok { IsTrue D.tells → IfOk result (λ o. IsMade (D.state disk).journal.seen
+            × (o.length ≡ length (D.state o.disk).journal.seen)) }
+        ensures synced { IsTrue D.honest → IfOk result (λ o. (D.state o.disk).journal
+            ≡ synced_file (D.state disk).journal.seen) }
         ensures start { IfOk result (λ o. (o.gate ≡ from_or_first from) × (o.limit ≡ limit)) }
-        ensures err { IsTrue D.honest → IfErr result (λ e. HeadGives {T = ℕ} (Err e.0) (D.state disk).journal.seen) }
+        ensures err { IsTrue D.tells → IfErr result (λ e. HeadGives {T = ℕ} (Err e.0) (D.state disk).journal.seen) }
 
         // A refused file is as it was, and on the disk.
         ensures refused { IsTrue D.honest → IfErr result (λ e. (e.0 ≡ StoreFault → ⊥)
@@ -65,6 +66,13 @@ impl<D: Disk> Opening<D> {
             (Narrower (D.state disk))) }
         ensures any_moment_err { IsTrue D.honest → IfErr result
             (λ e. KeepsTo D.Disk disk e.1 (Narrower (D.state disk))) }
+
+        // Where no call of the disk failed, its files read as before. On every disk nothing is written.
+        ensures reads { IsTrue D.tells → IfOk result (λ o. SameReads (D.state disk) (D.state o.disk)) }
+        ensures reads_err { IsTrue D.tells → IfErr result (λ e. (e.0 ≡ StoreFault → ⊥)
+            → SameReads (D.state disk) (D.state e.1)) }
+        ensures writes { IfOk result (λ o. WritesNothing D.Disk disk o.disk) }
+        ensures writes_err { IfErr result (λ e. WritesNothing D.Disk disk e.1) }
 
         ensures later { IfOk result (λ o. D.fault_count disk ≤ D.fault_count o.disk) }
         ensures fault { IfErr result (λ e. (D.fault_count disk ≤ D.fault_count e.1)
@@ -91,15 +99,15 @@ impl<D: Disk> Opening<D> {
     /// it is open and the frame's length, its entry or the next gate ends past the end or past 2^45 bytes, or the
     /// frame holds no entry. `StoreFault`: the disk did not do a call. `NoMemory`: memory for the entry ran out.
     pub fn next(&mut self, alloc: Global) -> Result<Option<Entry>, OpenFault>
-        requires known { IsTrue D.honest → self.old.length ≡ length (D.state self.old.disk).journal.seen }
-        ensures exact { IsTrue D.honest → NextGives result self.old.gate self.new.gate
+        requires known { IsTrue D.tells → self.old.length ≡ length (D.state self.old.disk).journal.seen }
+        ensures exact { IsTrue D.tells → NextGives result self.old.gate self.new.gate
             (frame_at self.old.gate (D.state self.old.disk).journal.seen) }
-        ensures untouched { IsTrue D.honest → Untouched D.Disk self.old.disk self.new.disk }
+        ensures untouched { OnlyReads D.Disk self.old.disk self.new.disk }
         ensures cause { HasStoreCause (D.fault_count self.old.disk) (D.fault_count self.new.disk) result }
         ensures rises { IfOk result (λ read. IfSome read (λ e. (self.old.gate < self.new.gate)
             × (self.new.gate ≤ 2 ^ 45))) }
         // Memory is wanting only for a frame that claims no more than an entry may have.
-        ensures memory { IsTrue D.honest → IsErrOf result OpenFault.NoMemory
+        ensures memory { IsTrue D.tells → IsErrOf result OpenFault.NoMemory
             → size_at self.old.gate (D.state self.old.disk).journal.seen ≤ entry_limit }
         // On every disk: what is read is an entry in range, and its frame is passed over.
         ensures advances { Advances result self.old.gate self.new.gate }

@@ -2,7 +2,7 @@
 ghost use Rattle.std.specs.Prelude.{◌≡◌, ◌+◌, ◌<◌, ◌≤◌, ◌^◌, IsTrue, IsErrOf, length, get_or, IfOk, IfSome, OnOk};
 ghost use Rattle.office_base.specs.Faults.{HasCause};
 ghost use Rattle.entry_codec.specs.Spelling.{EntryFits, entry_limit, spelling};
-ghost use Rattle.disk_core.specs.Moments.{Untouched};
+ghost use Rattle.disk_core.specs.Moments.{OnlyReads};
 ghost use Rattle.meter_journal.specs.Reading.{body_at, frame_at, size_at, entry_frame_at, BodyGives, FrameGives};
 ghost use Rattle.meter_journal.specs.Reading.{HasStoreCause};
 
@@ -15,9 +15,9 @@ use office_types::Entry;
 use std::alloc::Global;
 
 fn byte_at<D: Disk>(disk: &mut D, at: u64) -> Result<u8, Failed>
-    requires { IsTrue D.honest → at < length (D.state disk.old).journal.seen }
-    ensures byte { IsTrue D.honest → IfOk result (λ b. b ≡ get_or (D.state disk.old).journal.seen at 0) }
-    ensures untouched { IsTrue D.honest → Untouched D.Disk disk.old disk.new }
+    requires { IsTrue D.tells → at < length (D.state disk.old).journal.seen }
+    ensures byte { IsTrue D.tells → IfOk result (λ b. b ≡ get_or (D.state disk.old).journal.seen at 0) }
+    ensures untouched { OnlyReads D.Disk disk.old disk.new }
     ensures cause { HasCause (D.fault_count disk.old) (D.fault_count disk.new) result }
     ensures quiet { OnOk result (D.fault_count disk.new ≡ D.fault_count disk.old) }
 {
@@ -28,9 +28,9 @@ fn byte_at<D: Disk>(disk: &mut D, at: u64) -> Result<u8, Failed>
 
 fn size_of<D: Disk>(disk: &mut D, gate: u64) -> Result<u32, Failed>
     requires small { gate < 2 ^ 46 }
-    requires inside { IsTrue D.honest → gate + 5 ≤ length (D.state disk.old).journal.seen }
-    ensures size { IsTrue D.honest → IfOk result (λ n. n ≡ size_at gate (D.state disk.old).journal.seen) }
-    ensures untouched { IsTrue D.honest → Untouched D.Disk disk.old disk.new }
+    requires inside { IsTrue D.tells → gate + 5 ≤ length (D.state disk.old).journal.seen }
+    ensures size { IsTrue D.tells → IfOk result (λ n. n ≡ size_at gate (D.state disk.old).journal.seen) }
+    ensures untouched { OnlyReads D.Disk disk.old disk.new }
     ensures cause { HasCause (D.fault_count disk.old) (D.fault_count disk.new) result }
     ensures quiet { OnOk result (D.fault_count disk.new ≡ D.fault_count disk.old) }
 {
@@ -46,11 +46,11 @@ fn entry_of<D: Disk>(
     size: u64,
 ) -> Result<(Entry, u64), OpenFault>
     requires small { gate + size < 2 ^ 46 }
-    requires inside { IsTrue D.honest → gate + 5 + size ≤ length (D.state disk.old).journal.seen }
-    ensures exact { IsTrue D.honest → BodyGives result gate (entry_frame_at gate size (D.state disk.old).journal.seen) }
+    requires inside { IsTrue D.tells → gate + 5 + size ≤ length (D.state disk.old).journal.seen }
+    ensures exact { IsTrue D.tells → BodyGives result gate (entry_frame_at gate size (D.state disk.old).journal.seen) }
     ensures place { IfOk result (λ x. x.1 ≡ gate + 5 + size) }
     ensures spelled { IfOk result (λ x. EntryFits x.0 × (x.1 ≡ gate + 5 + length (spelling x.0))) }
-    ensures untouched { IsTrue D.honest → Untouched D.Disk disk.old disk.new }
+    ensures untouched { OnlyReads D.Disk disk.old disk.new }
     ensures cause { HasStoreCause (D.fault_count disk.old) (D.fault_count disk.new) result }
 {
     let Ok(mut room) = vec![in alloc; 0u8; size as usize] else {
@@ -76,13 +76,13 @@ fn body_of<D: Disk>(
     end: u64,
 ) -> Result<(Entry, u64), OpenFault>
     requires inside { gate < end }
-    requires known { IsTrue D.honest → end ≡ length (D.state disk.old).journal.seen }
-    ensures exact { IsTrue D.honest → BodyGives result gate (body_at gate (D.state disk.old).journal.seen) }
+    requires known { IsTrue D.tells → end ≡ length (D.state disk.old).journal.seen }
+    ensures exact { IsTrue D.tells → BodyGives result gate (body_at gate (D.state disk.old).journal.seen) }
     ensures rises { IfOk result (λ x. (gate < x.1) × (x.1 ≤ 2 ^ 45)) }
     ensures spelled { IfOk result (λ x. EntryFits x.0 × (x.1 ≡ gate + 5 + length (spelling x.0))) }
-    ensures memory { IsTrue D.honest → IsErrOf result OpenFault.NoMemory
+    ensures memory { IsTrue D.tells → IsErrOf result OpenFault.NoMemory
         → size_at gate (D.state disk.old).journal.seen ≤ entry_limit }
-    ensures untouched { IsTrue D.honest → Untouched D.Disk disk.old disk.new }
+    ensures untouched { OnlyReads D.Disk disk.old disk.new }
     ensures cause { HasStoreCause (D.fault_count disk.old) (D.fault_count disk.new) result }
 {
     if end - gate < 5 || gate > MAX {
@@ -109,14 +109,14 @@ pub(crate) fn frame_of<D: Disk>(
     gate: u64,
     end: u64,
 ) -> Result<Option<(Entry, u64)>, OpenFault>
-    requires known { IsTrue D.honest → end ≡ length (D.state disk.old).journal.seen }
-    ensures exact { IsTrue D.honest → FrameGives result gate (frame_at gate (D.state disk.old).journal.seen) }
+    requires known { IsTrue D.tells → end ≡ length (D.state disk.old).journal.seen }
+    ensures exact { IsTrue D.tells → FrameGives result gate (frame_at gate (D.state disk.old).journal.seen) }
     ensures rises { IfOk result (λ read. IfSome read (λ x. (gate < x.1) × (x.1 ≤ 2 ^ 45))) }
     ensures spelled { IfOk result
         (λ read. IfSome read (λ x. EntryFits x.0 × (x.1 ≡ gate + 5 + length (spelling x.0)))) }
-    ensures memory { IsTrue D.honest → IsErrOf result OpenFault.NoMemory
+    ensures memory { IsTrue D.tells → IsErrOf result OpenFault.NoMemory
         → size_at gate (D.state disk.old).journal.seen ≤ entry_limit }
-    ensures untouched { IsTrue D.honest → Untouched D.Disk disk.old disk.new }
+    ensures untouched { OnlyReads D.Disk disk.old disk.new }
     ensures cause { HasStoreCause (D.fault_count disk.old) (D.fault_count disk.new) result }
 {
     if end <= gate {

@@ -8,6 +8,7 @@ use Rattle.disk_core.proofs.Crash.{wrote_on, synced_on, synced_bytes, put-put}
 use Rattle.disk_core.specs.declared.disk.FileNo.TheVariants.{Journal}
 use Rattle.meter_journal.specs.History.{IsNoLonger}
 use Rattle.meter_journal.proofs.Room.{wrote_within, synced_within, ends_within, closes_within}
+use Rattle.meter_journal.proofs.Syncs.{none_yet, and_written, and_synced}
 use Rattle.meter_journal.proofs.framing.write_frame.Goals as goal
 
 pub returns-in_err-write_at-clause-any_moment : goal.returns-in_err-write_at-clause-any_moment
@@ -122,3 +123,10 @@ returns-clause-room g c told n fits le room =
     let three = wrote_within two c.write_at-3.ensures.time (own c.write_at-2.new.self) (c.args.gate + 5 + size) (length c.ending-closing.result.now)
     (closes_within c.args.gate size c.args.limit n (length c.ending-closing.result.now) fits le c.ending-closing.ensures.most c.ending-closing.ensures.limit) (c.write_at-3.ensures.state told) in
     synced_within three c.sync.ensures.time (own c.write_at-3.new.self) c.sync.result (c.sync.ensures.done told) (c.sync.ensures.state told)
+
+pub returns-clause-synced : goal.returns-clause-synced
+returns-clause-synced g c =
+    let one = and_written (none_yet (g.D.Disk.tally c.args.disk.now)) c.write_at.ensures.tally in
+    let two = and_written one c.write_at-2.ensures.tally in
+    let three = and_written two c.write_at-3.ensures.tally in
+    on_ok_weaker c.sync.result (and_synced three) c.sync.ensures.synced

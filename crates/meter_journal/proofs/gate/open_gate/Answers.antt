@@ -1,4 +1,5 @@
 use Rattle.std.proofs.Common.{◌∷◌, []}
+use Rattle.std.proofs.lemmas.Result.{on_ok_weaker}
 use Rattle.disk_core.specs.declared.disk.FileNo.TheVariants.{Journal}
 use Rattle.disk_core.specs.Files.{put}
 use Rattle.disk_core.specs.Fronts.{IsButOne}
@@ -6,6 +7,7 @@ use Rattle.disk_core.proofs.Time.{started, goes_on}
 use Rattle.disk_core.proofs.Crash.{but_one_start, but_one_wrote, but_one_after_sync, synced_bytes}
 use Rattle.meter_journal.specs.History.{IsNoLonger}
 use Rattle.meter_journal.proofs.Room.{wrote_within, synced_within}
+use Rattle.meter_journal.proofs.Syncs.{none_yet, and_written, and_synced}
 use Rattle.meter_journal.proofs.gate.open_gate.Goals as goal
 
 pub returns-in_err-write_at-clause-any_moment : goal.returns-in_err-write_at-clause-any_moment
@@ -48,3 +50,8 @@ returns-clause-room g c told n le room =
     (g.met.D.Disk.reads_image told c.args.disk.now Journal) c.args.gate 1 le (c.write_at.ensures.state told) in
     synced_within wrote c.sync.ensures.time (g.met.D.Disk.reads_image told c.write_at.new.self Journal) c.sync.result
     (c.sync.ensures.done told) (c.sync.ensures.state told)
+
+pub returns-clause-synced : goal.returns-clause-synced
+returns-clause-synced g c =
+    let one = and_written (none_yet (g.D.Disk.tally c.args.disk.now)) c.write_at.ensures.tally in
+    on_ok_weaker c.sync.result (and_synced one) c.sync.ensures.synced

@@ -1,10 +1,12 @@
 use Rattle.std.proofs.Common.{length, arith, ◌≡◌, ◌+◌, ◌∷◌, [], ◌∙◌, ap, subst, replicate, List, ℕ}
 use Rattle.std.specs.Prelude.{OnOk}
+use Rattle.std.proofs.lemmas.Result.{on_ok_weaker}
 use Rattle.disk_core.specs.Files.{File, put, synced_file}
 use Rattle.disk_core.proofs.Time.{joined, weakened}
 use Rattle.meter_journal.specs.History.{IsNoLonger, BeforeOrAfter}
 use Rattle.meter_journal.proofs.History.{with_frame, longer, keeps_start, seen_is, before, after, done}
 use Rattle.meter_journal.proofs.Room.{ends_within}
+use Rattle.meter_journal.proofs.Syncs.{twice}
 use Rattle.meter_journal.proofs.journal.commit.Goals as goal
 
 pub returns-in_err-write_frame-clause-any_moment : goal.returns-in_err-write_frame-clause-any_moment
@@ -39,3 +41,6 @@ returns-clause-room g c told n fits le room =
     let one = c.write_frame.ensures.room told n fits le room in
     let end = ends_within c.args.gate (length c.args.entry.now) c.args.limit n fits le in
     joined (IsNoLonger n) one (c.open_gate.ensures.room told n (omega (arith, end)) one.now) (λ s p. p) (λ s p. p)
+
+pub returns-clause-durable : goal.returns-clause-durable
+returns-clause-durable g c = on_ok_weaker c.open_gate.result (twice c.in_ok-write_frame.ensures.synced) c.open_gate.ensures.synced
