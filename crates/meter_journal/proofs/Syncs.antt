@@ -6,10 +6,10 @@ use Rattle.disk_core.specs.Tallies.{Tally, IsWritten, IsSynced, IsDurable}
 use Rattle.meter_journal.specs.Syncs.{EndsSynced}
 
 -- the journal alone was asked
-record AsksJournal (old new : Tally) : Type 0 where
-  syncs : old.syncs ≤ new.syncs
-  slot0 : new.slot0 ≡ old.slot0
-  slot1 : new.slot1 ≡ old.slot1
+pub record AsksJournal (old new : Tally) : Type 0 where
+  pub syncs : old.syncs ≤ new.syncs
+  pub slot0 : new.slot0 ≡ old.slot0
+  pub slot1 : new.slot1 ≡ old.slot1
 
 pub none_yet : (t : Tally) → AsksJournal t t
 none_yet t = record { syncs = omega arith; slot0 = refl; slot1 = refl }
