@@ -46,7 +46,7 @@ pub(crate) fn sync_journal<D: Disk>(disk: &mut D) -> Result<(), Failed>
         ≡ synced_file (D.state disk.old).journal.seen) }
     ensures reads { IsTrue D.tells → OnOk result (SameReads (D.state disk.old) (D.state disk.new)) }
     ensures writes { WritesNothing D.Disk disk.old disk.new }
-    ensures synced { OnOk result ((D.tally disk.new).journal ≡ false) }
+    ensures nothing_left { OnOk result ((D.tally disk.new).journal ≡ false) }
     ensures cause { HasCause (D.fault_count disk.old) (D.fault_count disk.new) result }
     ensures quiet { OnOk result (D.fault_count disk.new ≡ D.fault_count disk.old) }
 {
@@ -82,7 +82,7 @@ pub(crate) fn look<D: Disk>(disk: &mut D) -> Result<u64, OpenFault>
     ensures reads { IsTrue D.tells → (IsErrOf result OpenFault.StoreFault → ⊥)
         → SameReads (D.state disk.old) (D.state disk.new) }
     ensures writes { WritesNothing D.Disk disk.old disk.new }
-    ensures synced { OnOk result ((D.tally disk.new).journal ≡ false) }
+    ensures nothing_left { OnOk result ((D.tally disk.new).journal ≡ false) }
     ensures cause { HasStoreCause (D.fault_count disk.old) (D.fault_count disk.new) result }
 {
     if sync_journal(disk).is_err() {

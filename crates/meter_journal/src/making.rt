@@ -65,7 +65,7 @@ fn make<D: Disk>(disk: &mut D) -> Result<(), Failed>
     ensures room { IsTrue D.honest → (n : ℕ) → 11 ≤ n → IsNoLonger n (D.state disk.old)
         → KeepsTo D.Disk disk.old disk.new (IsNoLonger n) }
 
-    ensures synced { OnOk result ((D.tally disk.new).journal ≡ false) }
+    ensures nothing_left { OnOk result ((D.tally disk.new).journal ≡ false) }
     ensures cause { HasCause (D.fault_count disk.old) (D.fault_count disk.new) result }
     ensures quiet { OnOk result (D.fault_count disk.new ≡ D.fault_count disk.old) }
 {
@@ -122,7 +122,7 @@ pub fn create<D: Disk>(disk: &mut D) -> Result<Made, OpenFault>
     // On every disk: one that is made or foreign is not written, and after `Ok` nothing of it is left to be synced.
     ensures writes { IfOk result (λ m. m ≡ Made.Before → WritesNothing D.Disk disk.old disk.new) }
     ensures writes_err { IfErr result (λ e. (e ≡ StoreFault → ⊥) → WritesNothing D.Disk disk.old disk.new) }
-    ensures synced { OnOk result ((D.tally disk.new).journal ≡ false) }
+    ensures nothing_left { OnOk result ((D.tally disk.new).journal ≡ false) }
 
     ensures cause { HasStoreCause (D.fault_count disk.old) (D.fault_count disk.new) result }
 {
