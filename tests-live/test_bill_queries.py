@@ -1,5 +1,5 @@
 #!/usr/bin/env -S python3 -B
-"""Runs the queries of docs/OPERATIONS.md, "Query the bills", and the statements of docs/FORMATS.md, "Bills", by the command sqlite3, over
+"""Runs the queries of docs/BILLING.md, "Query the bills", and the statements of docs/FORMATS.md, "Bills", by the command sqlite3, over
 random bills, and compares them with sums of Python.
 
 It needs no program: python3 -B -m unittest discover -s tests-live -p test_bill_queries.py
@@ -18,7 +18,7 @@ import live
 from plain_months import next_month
 from sqlite_bills import BILL, HEADER, MONTH, TABLE, rows_of, written
 
-OPERATIONS, FORMATS = ((live.ROOT / "docs" / name).read_text("utf-8") for name in ("OPERATIONS.md", "FORMATS.md"))
+BILLING, FORMATS = ((live.ROOT / "docs" / name).read_text("utf-8") for name in ("BILLING.md", "FORMATS.md"))
 LARGEST = 2 ** 63 - 1
 
 
@@ -56,7 +56,7 @@ class Queries(unittest.TestCase):
         self.folder = pathlib.Path(tempfile.mkdtemp())
         self.addCleanup(shutil.rmtree, self.folder)
         self.path = self.folder / "bills.db"
-        self.check, self.year, self.quarter, self.growth, self.ten, self.missing = blocks(section(OPERATIONS, "Query the bills"))
+        self.check, self.year, self.quarter, self.growth, self.ten, self.missing = blocks(section(BILLING, "Query the bills"))
 
     def ask(self, statement):
         """What sqlite3 prints: a list of fields for each row."""
@@ -81,7 +81,7 @@ class Queries(unittest.TestCase):
 
     def test_where_the_integers_end(self):
         """What the page says of SQLite: a larger text is cast to the largest integer, and a sum past it is an error."""
-        self.assertIn(f"{LARGEST:,}", section(OPERATIONS, "Query the bills"))
+        self.assertIn(f"{LARGEST:,}", section(BILLING, "Query the bills"))
         self.assertEqual([[str(LARGEST)] * 3], self.ask(f"SELECT CAST('{LARGEST}' AS INTEGER), CAST('{LARGEST + 1}' AS INTEGER), CAST('{10 ** 38}' AS INTEGER)"))
         written(self.path, {f"2024-{month:02}": [("abc", 10 ** 18 - 1, 1)] for month in range(1, 11)})
         done = subprocess.run(["sqlite3", "-batch", self.path, self.year], capture_output=True, text=True, timeout=60, check=False)
@@ -145,7 +145,7 @@ class Queries(unittest.TestCase):
 
     def test_the_first_command(self):
         """The command before the queries, which prints the months."""
-        command = re.search(r'^sqlite3 .* "(SELECT .*)"$', section(OPERATIONS, "Query the bills"), flags=re.MULTILINE)[1]
+        command = re.search(r'^sqlite3 .* "(SELECT .*)"$', section(BILLING, "Query the bills"), flags=re.MULTILINE)[1]
         for months in self.each():
             self.assertEqual([[month, str(len(bills)), str(total_of(bills))] for month, bills in months.items()], self.ask(command))
 

@@ -1,5 +1,5 @@
 #!/usr/bin/env python3
-"""The documents: links lead somewhere, named files exist, and the commands of README.md and docs/OPERATIONS.md run as they are shown.
+"""The documents: links lead somewhere, named files exist, and the commands of README, OPERATIONS and BILLING run as they are shown.
 
     tests-live/test_documents.py PROGRAM
 """
@@ -10,7 +10,7 @@ import re
 import live
 from free_port import free_port
 from serve_client import request
-from spelled import GIB, create, journal, put
+from spelled import DAY, GIB, create, journal, put
 
 DOCUMENTS = [live.ROOT / "README.md", live.ROOT / "CHANGELOG.md", *sorted((live.ROOT / "docs").glob("*.md")),
              live.ROOT / "bench" / "README.md", *sorted((live.ROOT / "crates").glob("*/README.md"))]
@@ -21,7 +21,9 @@ LEFT_OUT = {
     "list-object-versions": "needs a store: test_import_versions.py, test_lifecycle_tool.py",
     "store.map": "needs a store: test_beside_a_store.py",
     "dd of=": "needs a damaged journal: backup.sh",
+    "stays.csv": "needs stays: test_billing_by_stays",
 }
+RUN = ("README.md", "docs/OPERATIONS.md", "docs/BILLING.md")
 
 
 def prose(text):
@@ -126,44 +128,88 @@ class Commands(live.Case):
                    [re.sub(r" +[0-9]+", " N", line) for line in found.splitlines()
                     if not re.match(r"backups +storage +STANDARD_IA ", line)])
 
-    def test_operations_bill(self):
-        """The bill that OPERATIONS shows: 500 GiB, 40 and then 41 GiB under one key, and 2,000 GiB in an archive, all in January 2024."""
-        shown = re.search(r"^```text\n(Object storage in .*?)^```", (live.ROOT / "docs" / "OPERATIONS.md").read_text("utf-8"),
-                          flags=re.DOTALL | re.MULTILINE)[1]
+    def shown(self, begin):
+        """The output that BILLING shows, by its first words."""
+        text = (live.ROOT / "docs" / "BILLING.md").read_text("utf-8")
+        return re.search(rf"^```text\n({re.escape(begin)}.*?)^```", text, flags=re.DOTALL | re.MULTILINE)[1]
+
+    def january(self):
+        """A server with what BILLING bills: 500 GiB, 40 and then 41 GiB under one key, and 2,000 GiB in an archive, all in January 2024."""
         data = self.new_folder("served") / "office-data" / "journal"
         data.write_bytes(journal(create(1, "logs"), create(1, "media"), put(1, "logs", "2023.tar", 500 * GIB),
                                  put(3, "logs", "jan.tar", 40 * GIB, "STANDARD_IA"), put(10, "media", "film", 2000 * GIB, "GLACIER"),
                                  put(13, "logs", "jan.tar", 41 * GIB, "STANDARD_IA")))
         server = self.serve()
-        server.client().ask(request("PUT", "/tariff", (live.ROOT / "examples" / "tariff.toml").read_text("ascii")))
-        status, found, notes = self.run_tool("bill", "--server", f"http://127.0.0.1:{server.port}", "--journal", data,
-                                             "--unit", "EUR=1000000", "2024-01")
+        with server.client() as client:
+            client.ask(request("PUT", "/tariff", (live.ROOT / "examples" / "tariff.toml").read_text("ascii")))
+        return "--server", f"http://127.0.0.1:{server.port}", "--journal", data
+
+    def test_billing_bill(self):
+        where, shown = self.january(), self.shown("Object storage in ")
+        status, found, notes = self.run_tool("bill", *where, "--unit", "EUR=1000000", "2024-01")
         self.check("the bill", (0, "", re.sub("as of [0-9TZ:-]+", "as of", shown)), (status, notes, re.sub("as of [0-9TZ:-]+", "as of", found)))
+        status, found, notes = self.run_tool("usage", *where, "2024-01")
+        found = "".join(line for line in found.splitlines(True) if not line.startswith("media"))
+        self.check("its quantities", self.shown("bucket,month"), found)
+        end = ("month-end", *where, "--folder", self.folder / "reports", "--bill", self.program, "2024-01")
+        found = "".join(f"{self.run_tool(*end)[2].splitlines()[-1]}\n" for _ in range(2))
+        self.check("its posting", self.shown("month-end: "), found)
+
+    def test_billing_units(self):
+        """One GiB-month in byte-milliseconds, for each length of a month."""
+        text = (live.ROOT / "docs" / "BILLING.md").read_text("utf-8")
+        for days in range(28, 32):
+            self.check(days, True, f"| {days} | {days * DAY:,} | {days * DAY * GIB:,} |" in text)
 
     @live.needs("sqlite3")
-    def test_operations(self):
-        # The first command was at the beginning of last month, so last month can be closed.
+    def test_billing_by_stays(self):
+        """The check of a month by its stays finds nothing in a right report, and a line that was changed."""
+        self.office("init")
+        if not self.office("explain").stdout:
+            self.skipTest("no explain")
+        end = ("month-end", *self.january(), "--folder", self.folder / "reports", "--bill", self.program, "2024-01")
+        self.check("the month is closed", 0, self.run_tool(*end)[0])
+        self.changed.update({"2026-11-": "2024-01-", "&& office": f"&& {self.program}"})
+        check, = (it for it in blocks((live.ROOT / "docs" / "BILLING.md").read_text("utf-8")) if "stays.csv" in it)
+        self.check("nothing is wrong", "", self.shell(check, "the stays of a month"))
+        report, right, wrong = self.folder / "reports" / "2024-01-report.csv", "109377355146854400000", "109377355146854400001"
+        report.write_text(report.read_text("ascii").replace(right, wrong), "ascii")
+        self.check("a wrong line", f"logs,STANDARD_IA,{wrong},{right}", self.shell(check, "the same with it").strip())
+
+    def lines_of(self, document):
+        """The commands of a page. The server is the one of this test, and behind the proxy there is none here."""
+        found = list(self.runnable(document))
+        self.assertGreater(len(found), 4)
+        return "".join(line for block in found for line in block.splitlines(True)
+                       if not line.startswith("office serve") and "https://" not in line)
+
+    def serving(self):
+        """Begins a server over a journal whose first command was at the beginning of last month, so that it can be closed."""
         first = (self.last.replace(day=1) - datetime.date(2024, 1, 1)).days + 1
         (self.folder / "office-data").mkdir()
         (self.folder / "office-data" / "journal").write_bytes(journal(create(first, "old"), put(first, "old", "a", GIB)))
-        serving = f"{self.program} serve --listen 127.0.0.1:{self.port} --workers 4 &\ntrap 'kill %1' EXIT\n"
+        return f"{self.program} serve --listen 127.0.0.1:{self.port} --workers 4 &\ntrap 'kill %1' EXIT\n"
+
+    def test_operations(self):
         rules = '{"Rules":[{"Status":"Enabled","Filter":{},"Expiration":{"Date":"2024-01-01T00:00:00.000Z"}}]}'
         begin = "".join(f"curl -X PUT -H Expect: {words} http://127.0.0.1:8080/buckets/logs{path} >made\n" for words, path in (
             ("", ""), (f"-d '{rules}'", "/lifecycle"), ("-d '{\"size\":5}'", "/objects/old")))
-        commands = []
-        for block in self.runnable("docs/OPERATIONS.md"):
-            # The server is the one of this test, and behind the proxy there is none here.
-            lines = [line for line in block.splitlines(True) if not line.startswith("office serve") and "https://" not in line]
-            commands.append("".join(lines))
-        self.assertGreater(len(commands), 6)
-        said = self.shell(serving + begin + "".join(commands), "the commands of OPERATIONS")
+        said = self.shell(self.serving() + begin + self.lines_of("docs/OPERATIONS.md"), "the commands of OPERATIONS")
         self.check("what was removed", 1, said.count("logs\told\tnull\n"))
-        self.check("the page and the report", [True, True], [any(self.folder.glob("20*.html")), any(self.folder.glob("reports/*-report.csv"))])
-        self.check("the month and its bills", True, f"{self.last:%Y-%m}  1        23000" in said)
         self.check("metrics", True, "office_up 1\n" in (self.folder / "metrics.prom").read_text("utf-8"))
 
+    @live.needs("sqlite3")
+    def test_billing(self):
+        prices = "curl -X PUT -H Expect: --data-binary @tariff.toml http://127.0.0.1:8080/tariff\n"
+        said = self.shell(self.serving() + prices + self.lines_of("docs/BILLING.md"), "the commands of BILLING")
+        reports = self.folder / "reports"
+        self.check("the page and the report", [True] * 2, [any(self.folder.glob("20*.html")), any(reports.glob("*-report.csv"))])
+        bill = (reports / f"{self.last:%Y-%m}-bill.txt").read_text("utf-8")
+        self.check("the bill of the closed month", True, "State: closed." in bill)
+        self.check("the month and its bills", True, f"{self.last:%Y-%m}  1        23000" in said)
+
     def test_each_block_left_out_is_there(self):
-        text = "".join((live.ROOT / name).read_text("utf-8") for name in ("README.md", "docs/OPERATIONS.md"))
+        text = "".join((live.ROOT / name).read_text("utf-8") for name in RUN)
         for word in LEFT_OUT:
             self.check(word, True, any(word in block for block in blocks(text)))
 
