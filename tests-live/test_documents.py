@@ -108,7 +108,9 @@ class Commands(live.Case):
         self.check("the office is made", True, said.startswith("made\n"))
         self.check("the bill of this month", 1, len(re.findall(r"backups,storage,STANDARD_IA,[1-9][0-9]*,12500,[0-9]+\n", said)))
         said = self.shell(foreseen, "a forecast")
-        self.check("both tables", True, said.startswith("since,action,key,item,class,rule\n") and "\n\nmonth,line,class,quantity,charge\n" in said)
+        self.check("both tables", True, said.startswith("since,action,key,") and "\n\nmonth,line,class,quantity,charge\n" in said)
+        moved, removed = "transition,daily/monday.tar,v:null,GLACIER,cool down\n", "remove,daily/monday.tar,v:null,,cool down\n"
+        self.check("it is moved after 90 days, and removed after 365", True, 0 < said.find(moved) < said.find(removed))
         serving = f"{self.program} serve --listen 127.0.0.1:8080 &\ntrap 'kill %1' EXIT\n"
         said = self.shell(serving + rules, "a lifecycle configuration")
         self.check("three rules, nothing is due", '{"rules":3}{"action":"none"}', said)
