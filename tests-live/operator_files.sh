@@ -10,7 +10,7 @@ root=$(CDPATH='' cd -- "$(dirname -- "$0")/.." && pwd) || exit 1
 . "$root/tests-live/common"
 cd "$work" || exit 1
 
-# The man page: no warnings, and each status that docs/FORMATS.md names.
+# The man page: no warnings, and each exit code that docs/OPERATIONS.md names.
 page=$root/docs/office.1
 if has mandoc 'mandoc -Tlint'; then
     check 'mandoc -Tlint' '' "$(mandoc -Tlint -W warning "$page" 2>&1)"
@@ -22,8 +22,8 @@ if has man 'man --warnings'; then
         skip 'man --warnings' 'man that shows a page'
     fi
 fi
-check 'each exit code of docs/FORMATS.md is in the man page' \
-    "$(sed -n '/^## Exit codes/,/^## [A-DF-Z]/s/^| \([0-9][0-9]*\) |.*/\1/p' "$root/docs/FORMATS.md" | tr '\n' ' ')" \
+check 'each exit code of docs/OPERATIONS.md is in the man page' \
+    "$(sed -n '/^## When each exit code/,/^## [A-VX-Z]/s/^| \([0-9][0-9]*\) |.*/\1/p' "$root/docs/OPERATIONS.md" | tr '\n' ' ')" \
     "$(sed -n 's/^\.It \([0-9][0-9]*\)$/\1/p' "$page" | tr '\n' ' ')"
 
 # The status of the program with these words, in a folder without a journal: 1 where they are no command line.

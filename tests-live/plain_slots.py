@@ -1,5 +1,5 @@
-"""Writes the checkpoint slot of the plain models, after docs/FORMATS.md and crates/checkpoint/README.md alone; for test_checkpoints.py
-and test_backup_slots.py. It knows nothing of tools/office_tools, which reads slots.
+"""Writes the checkpoint slot of the plain models, after docs/FORMATS.md alone; for test_checkpoints.py and
+test_backup_slots.py. It knows nothing of tools/office_tools, which reads slots.
 
 A `State` is the models at a moment: the last moment, the buckets of plain_office.py, `Months` of plain_months.py, `Kept` of
 plain_tokens.py.

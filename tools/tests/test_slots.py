@@ -1,4 +1,4 @@
-"""Checkpoint slots, spelled by hand after docs/FORMATS.md, "Checkpoints", and crates/checkpoint/README.md, "The body"."""
+"""Checkpoint slots, spelled by hand after docs/FORMATS.md, "Checkpoints"."""
 import pathlib
 import sys
 import unittest
