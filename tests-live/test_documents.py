@@ -11,6 +11,7 @@ import live
 from free_port import free_port
 from serve_client import request
 from spelled import DAY, GIB, create, journal, put
+from test_preview import SHOWN
 
 DOCUMENTS = [live.ROOT / "README.md", live.ROOT / "CHANGELOG.md", *sorted((live.ROOT / "docs").glob("*.md")),
              live.ROOT / "bench" / "README.md", *sorted((live.ROOT / "crates").glob("*/README.md"))]
@@ -209,6 +210,11 @@ class Commands(live.Case):
         bill = (reports / f"{self.last:%Y-%m}-bill.txt").read_text("utf-8")
         self.check("the bill of the closed month", True, "State: closed." in bill)
         self.check("the month and its bills", True, f"{self.last:%Y-%m}  1        23000" in said)
+
+    def test_operations_preview(self):
+        """OPERATIONS shows the preview that test_preview.py compares with numbers by hand."""
+        shown = (live.ROOT / "docs" / "OPERATIONS.md").read_text("utf-8")
+        self.check("the preview", True, f"```text\n{SHOWN.replace('served/', '')}```\n" in shown)
 
     def test_each_block_left_out_is_there(self):
         text = "".join((live.ROOT / name).read_text("utf-8") for name in RUN)
