@@ -96,8 +96,8 @@ module _ {D C : Type 0} (d : disks.Ghosts D) where
   AddsEntry time reply before entry old new (Err (faults.Broken fault)) = ⊥
   AddsEntry time reply before entry old new (Err faults.NoMemory) = ⊥
 
-  -- What a command does that is answered before the end of time: by one that is accepted, and under whose token no reply
-  -- is kept, the history grows, and by none else is anything written. Where no reply is kept its frame fits.
+  -- What a command does before the end of time. The reply is that of `step_with`. If it is accepted and no reply is kept
+  -- under its token, the history grows by it; else nothing is written. If no reply is kept, its frame fits.
   pub record CarriesOut (t : ℕ) (call : Asked) (office : Office) (before : Tail) (old new : DeskView D C)
       (reply : Result Reply Refusal) : Type 0 where
     pub told : reply ≡ (step_with t call.token call.command office).1

@@ -96,8 +96,8 @@ abbrev pub IsLeft : Bool → Option ℕ → Ask → Office → List Entry → Li
 IsLeft honest number question office before after =
     IsTrue honest → (after ≡ before) ⊎ MayBeKept number question office before after
 
--- one call, on the office of the history before it; counted is the disk's count of faults that the last fault of the
--- store told, and before the first one that of the opening. A journal that breaks is no journal of an honest disk.
+-- This call is legal after this history. `counted` is the count of faults in the last `StoreFault`; before the first one it
+-- is that at the opening. An honest disk has no broken journal.
 abbrev pub IsLegal : Bool → ℕ → ℕ → Ask → Result Answer DeskFault → Office → List Entry → List Entry → Type 0
 IsLegal honest limit counted question (Ok answer) office before after =
     IsAnswered limit question office answer before after

@@ -35,7 +35,7 @@ pub record Closes {D C : Type 0} (d : disks.Ghosts D) (desk : DeskView D C) (new
   -- a disk that is sound stays so, at every moment
   pub sound : (opened : Opened) (calls : List Call) → StandsFor d opened calls desk
       → IsSound (d.state desk.disk) → KeepsTo d desk.disk new IsSound
-  -- where a checkpoint was kept, what is loaded from any image has the end of the journal as its position
+  -- after a save, what is loaded from any image has the end of the journal as its position
   pub kept : (opened : Opened) (calls : List Call) → StandsFor d opened calls desk
       → IsSound (d.state desk.disk) → IsToSave desk
       → OnOk saved ((images : Images) → AreImages (d.state new) images → LoadsTheEnd desk images)

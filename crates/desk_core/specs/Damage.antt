@@ -44,7 +44,7 @@ pub record IsBrokenFrom (start : Start) (at : ℕ) (file : List ℕ) : Type 0 wh
   pub breaks : (frame_at at file ≡ Broken)
       ⊎ ((entry : Entry) × (next : ℕ) × (frame_at at file ≡ Whole entry next) × (accept office entry ≡ None))
 
--- so it is, or the file ends before the place at which reading starts, and this is that place
+-- damaged at this gate from the start on; or the file ends before the start, and this is that place
 abbrev pub IsDamagedFrom : Start → ℕ → List ℕ → Type 0
 IsDamagedFrom start at file = ((length file < start.place) × (at ≡ start.place)) ⊎ IsBrokenFrom start at file
 
@@ -79,7 +79,7 @@ OpenFailsOn (faults.Damaged at) s =
 OpenFailsOn faults.StoreFault s = Unit {0}
 OpenFailsOn faults.NoMemory s = Unit {0}
 
--- why the entries behind this place of a made file could not be done again on what this view stands for
+-- why the entries from this place of a made file on cannot be done again on the office of this view
 abbrev pub ReplayFails : OpenFault → OfficeView → ℕ → List ℕ → Type 0
 ReplayFails faults.NotMade first place file = ⊥
 ReplayFails faults.Foreign first place file = ⊥

@@ -28,8 +28,8 @@ pub record DeskView (D C : Type 0) : Type 0 where
   pub limit : ℕ
   pub stale : Bool
 
--- the office is the one after the entries of this tail, and the gate the end of its journal, whose limit is at most 2^45
--- bytes: where entries were read or added the gate is not past that; an honest disk holds that journal, synced
+-- The office is the one after the tail's entries, the gate is the journal's end, and the limit is at most 2^45 bytes. If
+-- entries were read or added, the gate is not past 2^45. On an honest disk the journal is synced.
 pub record HoldsTail {D C : Type 0} (d : disks.Ghosts D) (tail : Tail)
     (desk : DeskView D C) : Type 0 where
   pub office : StandsSince tail.office tail.entries desk.office
@@ -43,7 +43,7 @@ pub record HoldsTail {D C : Type 0} (d : disks.Ghosts D) (tail : Tail)
 abbrev pub HoldsHistory : {D C : Type 0} → disks.Ghosts D → List Entry → DeskView D C → Type 0
 HoldsHistory d history desk = HoldsTail d (from_first history) desk
 
--- so it is of some tail, which starts where the slots of an honest disk say
+-- the desk holds some tail, which starts where the slots of an honest disk say
 pub record IsReady {D C : Type 0} (d : disks.Ghosts D) (desk : DeskView D C) : Type 0 where
   pub tail : Tail
   pub holds : HoldsTail d tail desk
@@ -95,8 +95,8 @@ abbrev pub IsStamped : Result Answer DeskFault → ℕ → ℕ → Type 0
 IsStamped (Ok answer) end moment = (answer.position ≡ end) × (answer.disk_moment ≡ moment)
 IsStamped (Err fault) end moment = Unit {0}
 
--- a fault of the store comes where, and only where, the disk failed in the call, and tells the disk's count at the
--- return; where anything else is told, that count stands still
+-- `StoreFault` if and only if the disk failed in the call, with its count at the return; after anything else the count
+-- is as before
 abbrev pub TellsFault : Result Answer DeskFault → ℕ → ℕ → Type 0
 TellsFault (Ok answer) before after = after ≡ before
 TellsFault (Err (faults.StoreFault number count)) before after = Rose before after × (count ≡ after)

@@ -42,7 +42,7 @@ pub record IsOfHistory (history : List Entry) (snapshot : SnapshotRecord) (posit
   pub is_run : run before ≡ Some office
   pub shows_it : Shows snapshot office
 
--- so it is of what the slot keeps, if it decodes
+-- what the slot keeps, if it decodes, is of this history
 abbrev pub FitsHistory : List Entry → List ℕ → Type 0
 FitsHistory history slot = (snapshot : SnapshotRecord) (position : ℕ)
     → Keeps Spells snapshot position slot → IsOfHistory history snapshot position
@@ -66,7 +66,7 @@ pub record SlotsFit (history : List Entry) (s : State) : Type 0 where
 abbrev pub IsPrefixOf : List Entry → List Entry → Type 0
 IsPrefixOf history longer = (rest : List Entry) × (longer ≡ history ++ rest)
 
--- so it does but for the last entry of the first
+-- the same, but for the last entry of the first
 abbrev pub IsPrefixButOne : List Entry → List Entry → Type 0
 IsPrefixButOne history longer =
     IsPrefixOf history longer

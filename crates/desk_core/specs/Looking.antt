@@ -17,7 +17,7 @@ abbrev pub IsReplyOf : ℕ → Query → Office → Result Reply Refusal → Typ
 IsReplyOf told query plain reply =
     (reply ≡ answer (moment_after told plain.last) query plain) ⊎ (reply ≡ Err NoMemory)
 
--- so it is of the plain office after this history
+-- the reply is that of the plain office after this history
 pub record IsRead (told : ℕ) (query : Query) (history : List Entry) (reply : Result Reply Refusal) : Type 0 where
   pub plain : Office
   pub is_run : run history ≡ Some plain

@@ -12,7 +12,7 @@ abbrev pub opened_with : {D C : Type 0} → disks.Ghosts D → List Entry → De
 opened_with d history desk =
     record { history = history; limit = desk.limit; faults = d.fault_count desk.disk; moment = d.moment desk.disk }
 
--- it stands for no call yet, from the history of the bytes that its journal file reads
+-- the desk stands for no call yet, from the history of the bytes that its journal file reads
 pub record OpensWith {D C : Type 0} (d : disks.Ghosts D) (disk : D) (desk : DeskView D C) : Type 0 where
   pub history : List Entry
   pub read : HasAcceptedHistory history (d.state disk).journal.seen

@@ -15,9 +15,8 @@ use Rattle.desk_core.specs.Desk.{DeskView}
 use Rattle.desk_core.specs.Offices.{TakeTokens, StandsSince}
 use Rattle.desk_core.specs.Reading.{Loaded, IsLoadedIn, Begins, place_of}
 
--- The journal of this disk was opened and read on from where its slots say, up to its end gate, and its entries were done
--- again, without a fault of the disk: this is the desk over it. Nothing was written, and every image since is one that it
--- had.
+-- The desk after an opening: the entries from the place that the slots say to the end gate were done again, on the office
+-- that the slots say. The disk did not fail, nothing was written, and each image since is one that it had.
 pub record ReadsOn {D C : Type 0} (d : disks.Ghosts D) (disk : D) (desk : DeskView D C) : Type 0 where
   pub loaded : Loaded
   pub gives : IsTrue d.tells → IsLoadedIn (d.state disk) loaded

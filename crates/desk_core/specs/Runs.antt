@@ -26,8 +26,8 @@ stale_by stale [] = stale
 stale_by stale (call ∷ calls) = stale_by (stale_after stale call.said) calls
 
 module _ {D : Type 0} (d : disks.Ghosts D) where
-  -- A crash at any moment since the opening leaves a history that begins with the one of the opening, and of which
-  -- the office accepts each entry at its place; but for its last entry it is there at the end.
+  -- Each image since the opening has a history that begins with that of the opening, and of which the office accepts each
+  -- entry at its place. All of it but at most its last entry is in the history at the end.
   abbrev pub KeepsHistories : Opened → D → Type 0
   KeepsHistories opened new =
       (t : ℕ) (s : State) (image : List ℕ) → opened.moment ≤ t → t ≤ d.moment new
@@ -75,8 +75,8 @@ abbrev pub outside : {D C : Type 0} → D → C → Outside D C
 outside disk clock = record { disk = disk; clock = clock }
 
 module _ {D C : Type 0} (d : disks.Ghosts D) (k : clocks.Ghosts C) where
-  -- A desk was opened over what stands under the office, and each of these calls, in order, was one call of it: so each
-  -- has the cause that a call of a desk has, and a fault of the store comes only in a call in which the disk failed.
+  -- A desk was opened here, made these calls in order, and was closed. So each call has the cause that a call of a desk
+  -- has, and `StoreFault` comes only in a call in which the disk failed.
   pub record MovesBy (limit : ℕ) (old new : Outside D C) (calls : List Call) : Type 0 where
     pub first : DeskView D C
     pub opens : Opens d old.disk old.clock limit first

@@ -53,8 +53,8 @@ IsAcceptedAt t question view = IsSomeAnd (asked question) (λ call.
     (t < end_of_time) × ((office : Office) → machine.StandsFor view office
     → IsFresh call office × IsTrue (is_accepted (step_with t call.token call.command office).1)))
 
--- a fault of the store comes where, and only where, the disk failed in the call, and only for a command that the
--- office accepts; the count that it tells is the disk's at the return
+-- `StoreFault` if and only if the disk failed in the call, with its count at the return, and only for a command that the
+-- office accepts; after anything else the count is as before
 abbrev pub HasStoreReason : Result Answer DeskFault → Ask → OfficeView → ℕ → ℕ → Type 0
 HasStoreReason (Err (faults.StoreFault (Some number) count)) question view before after =
     Rose before after × (count ≡ after) × IsAcceptedAt (moment_after number view.records.last) question view
@@ -83,8 +83,8 @@ RepliesTo t question plain reply view = IsSomeAnd (asked question) (λ call.
     (reply ≡ (step_with t call.token call.command plain).1)
     × machine.StandsFor view (step_with t call.token call.command plain).0)
 
--- so it is of an answer in time; where none is given, the office in memory stands for the same, but after a fault of the
--- store, when the journal is opened again before the next call
+-- An answer in time is that reply. If there is none, the office in memory stands for the same plain office; after
+-- `StoreFault` nothing is said, since the journal is opened again before the next call.
 abbrev pub RepliesInTime : ℕ → Ask → Office → Result Answer DeskFault → OfficeView → Type 0
 RepliesInTime t question plain (Ok said) view = RepliesTo t question plain said.reply view
 RepliesInTime t question plain (Err (faults.StoreFault number count)) view = Unit {0}
@@ -139,8 +139,7 @@ pub record HasCauses {D C : Type 0} (d : disks.Ghosts D) (k : clocks.Ghosts C) (
       → Repeats question hold.office.plain one
       → moment_after (k.last new.clock) office.office.records.last < end_of_time
       → IsAgain one said × (new.disk ≡ office.disk)
-  -- where the command's frame would pass the limit nothing else is told, but want of memory, and nowhere else is the
-  -- journal called full
+  -- if the frame would pass the limit, the answer is `JournalFull`, or out of memory; `JournalFull` comes in no other case
   pub full : PassesLimit (moment_after (k.last new.clock) office.office.records.last) office question
       → (said ≡ Err faults.JournalFull) ⊎ (said ≡ Err faults.NoMemory)
   pub full_alone : said ≡ Err faults.JournalFull
@@ -185,8 +184,8 @@ module _ {D C : Type 0} (d : disks.Ghosts D) where
 
 -- ---- a call
 
--- What a call does: whatever list of calls the desk stood for, it stands for that list with this call at its end. The
--- office that answers is the desk's own, or of a stale desk one that was opened again, where it could be.
+-- What a call does. If the desk stood for a list of calls, it now stands for it with this call at its end. The desk itself
+-- answers, or, if it was stale, the one that was opened again, if it could be.
 pub record Submits {D C : Type 0} (d : disks.Ghosts D) (k : clocks.Ghosts C) (old : DeskView D C) (question : Ask)
     (said : Result Answer DeskFault) (new : DeskView D C) : Type 0 where
   pub stands : (opened : Opened) (calls : List Call) → StandsFor d opened calls old

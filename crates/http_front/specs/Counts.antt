@@ -17,8 +17,8 @@ abbrev pub IsUnder : Option ℕ → Type 0
 IsUnder None = ⊤
 IsUnder (Some total) = total < take_limit
 
--- As many bytes as the limit were taken of a source of so many, and rest is left of the stream behind the messages: its
--- front is what was taken of it, and settles nothing.
+-- The source has so many bytes, and gave as many as the limit. `rest` is the stream after the messages; what was taken of
+-- it, its front, settles nothing.
 pub record Spends (total : ℕ) (rest : List ℕ) : Type 0 where
   pub front : List ℕ
   pub more : List ℕ

@@ -91,8 +91,8 @@ pub record CutsLast (spoken : Spoken) : Type 0 where
   pub are : spoken.exchanges ≡ spoken.whole ++ last ∷ []
   pub is : spoken.written ≡ texts spoken.whole ++ take n (exchange_text last)
 
--- the exchanges before the last one were said whole, and this in place of the last one, an answer for whose text there
--- was no memory
+-- All exchanges but the last were said whole. The last is an answer; memory ran out for its text, and this was said in its
+-- place.
 pub record IsUnsaid (spoken : Spoken) (instead : List ℕ) : Type 0 where
   pub last : Call
   pub are : spoken.exchanges ≡ spoken.whole ++ answered last ∷ []
@@ -115,9 +115,8 @@ LacksAtAnswer spoken = LastLacks spoken.exchanges × IsSaidWhole spoken
 abbrev pub LacksAtMessage : Spoken → Type 0
 LacksAtMessage spoken = NoneLacks (calls_of spoken.exchanges) × AddsText spoken no_memory_text
 
--- What was said at the end of a session, whose source has so many bytes in all: the texts of all exchanges are said
--- whole, but for a last one that is cut or lacks memory for its text. Where it is closed, nothing is heard or said
--- behind its last exchange.
+-- What was said at the end of a session, whose source has so many bytes in all: the texts of all exchanges, but for a last
+-- one that is cut or lacks memory for its text. A session that is closed hears and says nothing after its last exchange.
 abbrev pub IsWritten : Option ℕ → SessionEnd → Spoken → Type 0
 IsWritten total ends.Ended spoken = EndsClosed spoken ⊎ EndsWithStream total spoken
 IsWritten total ends.ReadFault spoken = StopsUnread spoken
