@@ -1,5 +1,5 @@
 -- How writes of a journal and syncs of it add up.
-use Rattle.std.proofs.Common.{◌≡◌, sym, ◌∙◌, ap, refl, subst, ◌≤◌, ℕ, Result, Ok, Err, arith}
+use Rattle.std.proofs.Common.{◌≡◌, sym, ◌∙◌, ap, refl, subst, ◌≤◌, Result, Ok, Err, arith}
 use Rattle.std.specs.Prelude.{OnOk, OnErr}
 use Rattle.disk_core.specs.declared.disk.FileNo.TheVariants.{Journal}
 use Rattle.disk_core.specs.Tallies.{Tally, IsWritten, IsSynced, IsDurable}
