@@ -1,10 +1,11 @@
 // Saves and loads the checkpoint of an office.
 ghost use Rattle.std.specs.Prelude.{◌≡◌, ◌≤◌, ℕ, true, IsTrue, IfOk, IfSome, OnOk, IsErrOf};
 ghost use Rattle.std.specs.List.{AllByRecursion};
-ghost use Rattle.disk_core.specs.Moments.{KeepsTo, Untouched};
+ghost use Rattle.disk_core.specs.Moments.{KeepsTo, OnlyReads, Untouched};
 ghost use Rattle.slots.specs.Causes.{HasSaveCause};
 ghost use Rattle.slots.specs.Loading.{IsLoaded, LoadGives, pair_in};
 ghost use Rattle.slots.specs.Saving.{OldOrNew, EachKeeps, IsSaved, kept};
+ghost use Rattle.slots.specs.Synced.{LeavesSynced};
 ghost use Rattle.office_types.specs.Tokens.{takes_token};
 ghost use Rattle.office_snapshot.specs.Snapshots.{SnapshotRecord};
 ghost use Rattle.office_snapshot.specs.Restorable.{IsRestorable};
@@ -62,12 +63,12 @@ impl Body for Checkpoint {
 ///
 /// `StoreFault`: the disk failed. `NoMemory`: out of memory.
 pub fn load<D: Disk>(alloc: Global, disk: &mut D) -> Result<Option<(Snapshot, u64)>, SaveFault>
-    ensures loaded { IsTrue D.honest → IfOk result (λ read. LoadGives Spells read (pair_in (D.state disk.old))) }
+    ensures loaded { IsTrue D.tells → IfOk result (λ read. LoadGives Spells read (pair_in (D.state disk.old))) }
 
-    // Also of a disk that is not honest.
+    // Also of a disk that does not tell what it holds.
     ensures checkpoint { IfOk result (λ read. IfSome read (λ read. IsRestorable read.0 × (10 ≤ read.1))) }
 
-    ensures untouched { IsTrue D.honest → Untouched D.Disk disk.old disk.new }
+    ensures untouched { OnlyReads D.Disk disk.old disk.new }
     ensures cause { HasSaveCause (D.fault_count disk.old) (D.fault_count disk.new) result }
 {
     match slots::load::<D, Checkpoint>(alloc, disk) {
@@ -114,7 +115,14 @@ pub fn save<D: Disk>(
     ensures spelled { IsRestorable snapshot.now → (IsErrOf result SaveFault.NoMemory → ⊥)
         → Spells (body_format.written snapshot.now) snapshot.now }
 
+    // On every disk: after `Ok` each slot was synced after its last write, and four syncs or more were done.
+    ensures durable { OnOk result (LeavesSynced 4 (D.tally disk.old) (D.tally disk.new)) }
+
     ensures unchanged { IsTrue D.honest → IsErrOf result SaveFault.NoMemory → Untouched D.Disk disk.old disk.new }
+
+    // On every disk: out of memory nothing was written, cut or synced.
+    ensures unwritten { IsErrOf result SaveFault.NoMemory → D.tally disk.new ≡ D.tally disk.old }
+
     ensures cause { HasSaveCause (D.fault_count disk.old) (D.fault_count disk.new) result }
 {
     match body_of(alloc, snapshot) {

@@ -207,7 +207,7 @@ pub(crate) fn find<D: Disk, B: Body>(
 pub fn load<D: Disk, B: Body>(alloc: Global, disk: &mut D) -> Result<Option<(B, u64)>, SaveFault>
     ensures loaded { IsTrue D.tells → IfOk result (λ read. LoadGives B.spells read (pair_in (D.state disk.old))) }
 
-    // Also of a disk that does not tell what it reads.
+    // Also of a disk that does not tell what it holds.
     ensures checkpoint { IfOk result (λ read. IfSome read (λ read. IsCheckpoint B.spells read.0 read.1)) }
 
     ensures untouched { OnlyReads D.Disk disk.old disk.new }
