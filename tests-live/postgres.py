@@ -41,7 +41,8 @@ class Postgres:
         if user():
             shutil.chown(self.folder, "postgres")
         self.run("initdb", "-D", self.folder / "data", "-U", "tester", "-A", "trust", "-E", "UTF8", "--locale=C", "--no-sync")
-        self.run("pg_ctl", "-D", self.folder / "data", "-w", "-l", self.folder / "log", "-o", f"-c listen_addresses='' -k {self.folder} -c fsync=off", "start")
+        options = f"-c listen_addresses='' -k {self.folder} -c fsync=off"
+        self.run("pg_ctl", "-D", self.folder / "data", "-w", "-l", self.folder / "log", "-o", options, "start")
 
     def run(self, name, *words):
         done = subprocess.run([*user(), folder_of_programs() / name, *words], cwd="/", stdin=subprocess.DEVNULL, stdout=subprocess.DEVNULL,

@@ -55,6 +55,27 @@ class Import(live.Case):
             self.check(f"CSV {name}, all is accepted", 2 + len(rows), ended.stdout.count(b"HTTP/1.1 201 "))
             self.check(f"CSV {name}, the journal has the objects", wanted, objects_of(folder))
 
+    def test_a_file_of_requests_twice(self):
+        """`office run` on the file of --out, twice: the second time nothing is put, by the tokens."""
+        listing = self.versions_listing()
+        listing["DeleteMarkers"][0]["LastModified"] = "2024-01-02T00:00:00+00:00"
+        self.file("versions.json", json.dumps(listing))
+        self.write_csv("plain.csv", [("plain", f"k{it}", it, "STANDARD") for it in range(20)])
+        for name, words, bucket, count in (("versions", ("--bucket", "photos", "versions.json"), "photos", 4),  # two rows name one version
+                                           ("current objects", ("--schema", SHORT, "plain.csv"), "plain", 20)):
+            folder = self.new_folder(name)
+            self.check(f"{name}: the file", 0, self.run_it("--out", "requests", *words)[0])
+            first, second = (self.office("run", sent=(self.folder / "requests").read_bytes(), folder=folder) for _ in range(2))
+            self.check(f"{name}: status", (0, 0), (first.returncode, second.returncode))
+            puts = [it for it in whole_entries_of(folder) if token_in(it)]
+            self.check(f"{name}: each row once", count, len(puts))
+            about = self.office("run", sent=request("GET", f"/buckets/{bucket}"), folder=folder).stdout
+            self.check(f"{name}: versions in the bucket", count, json.loads(about.rpartition(b"\r\n\r\n")[2])["versions"])
+        many = self.write_csv("many.csv", [("plain", f"k{it}", 1, "") for it in range(10_001)])
+        status, notes = self.run_it("--schema", SHORT, "--out", "requests", many)
+        self.check("more than the program keeps replies to", (0, "import-inventory: give requests to `office run` once: the program knows the last 10000 "
+                   "of its 10001 rows alone again"), (status, notes.splitlines()[0]))
+
     def versions_listing(self):
         """What the AWS command line prints of a bucket with versions."""
         def version(key, latest, size, name="STANDARD"):

@@ -103,6 +103,11 @@ class Join(unittest.TestCase):
         head = (EXAMPLES / name).read_text("utf-8").partition("\n\n")[0]
         return "\n".join(it[5:] for it in head.splitlines() if it.startswith("--   ")).replace("2026-11", "2024-01")
 
+    def load(self, script, **how):
+        done = subprocess.run(["sh", "-ec", script], cwd=self.folder, stdin=subprocess.DEVNULL, capture_output=True, text=True, timeout=live.LIMIT,
+                              check=False, **how)
+        self.assertEqual((0, ""), (done.returncode, done.stderr))
+
     def check_all(self, ask):
         """`ask` loads the files, does a change, and gives the rows of a query as texts."""
         for seed in live.seeds(1, 5):
@@ -126,9 +131,9 @@ class Join(unittest.TestCase):
         def ask(query, *changes):
             (self.folder / "joined.db").unlink(missing_ok=True)
             script = words.replace(".read bills.sql", f".read {EXAMPLES}/bills.sql")
-            loaded = subprocess.run(["sh", "-ec", script], cwd=self.folder, stdin=subprocess.DEVNULL, capture_output=True, text=True, timeout=60, check=False)
-            self.assertEqual((0, ""), (loaded.returncode, loaded.stderr))
-            done = subprocess.run(["sqlite3", "-batch", "joined.db", *changes, query], cwd=self.folder, capture_output=True, text=True, timeout=60, check=False)
+            self.load(script)
+            done = subprocess.run(["sqlite3", "-batch", "joined.db", *changes, query], cwd=self.folder, capture_output=True, text=True,
+                                  timeout=live.LIMIT, check=False)
             self.assertEqual((0, ""), (done.returncode, done.stderr))
             return [line.split("|") for line in done.stdout.splitlines()]
         self.check_all(ask)
@@ -142,9 +147,7 @@ class Join(unittest.TestCase):
         def ask(query, *changes):
             made = server.psql("postgres", "-c", "drop database if exists joined", "-c", "create database joined")
             self.assertEqual((0, ""), (made.returncode, made.stderr.replace('NOTICE:  database "joined" does not exist, skipping\n', "")))
-            loaded = subprocess.run(["sh", "-ec", script], cwd=self.folder, stdin=subprocess.DEVNULL, capture_output=True, text=True, timeout=60, check=False,
-                                    env=server.surroundings("joined"))
-            self.assertEqual((0, ""), (loaded.returncode, loaded.stderr))
+            self.load(script, env=server.surroundings("joined"))
             done = server.psql("joined", "-A", "-t", *(word for it in (*changes, query) for word in ("-c", it)))
             self.assertEqual((0, ""), (done.returncode, done.stderr))
             return [line.split("|") for line in done.stdout.splitlines()]

@@ -24,6 +24,11 @@ def target_of(row: Row) -> str:
     return f"{bucket_target(row.bucket)}/objects/{urllib.parse.quote(row.key, safe='/')}"
 
 
+def name_of(row: Row) -> typing.Tuple[str, str]:
+    """How a row is named among those that are left out."""
+    return row.bucket, urllib.parse.quote(row.key, safe="/")
+
+
 def bucket_target(bucket: str) -> str:
     return f"/buckets/{urllib.parse.quote(bucket, safe='')}"
 
@@ -40,8 +45,11 @@ def body_of(row: Row) -> typing.Optional[dict]:
     return {"size": row.size, **named, **({"tags": row.tags} if row.tags else {})}
 
 
-def with_tokens(rows: typing.Iterable[Row], place: int = 0) -> typing.Iterator[typing.Tuple[Row, str]]:
-    """The rows from a place on, each with its token: the same for the same row in any listing, and others for rows that say the same."""
+def with_tokens(rows: typing.Iterable[Row], place: int = 0, anew: typing.Optional[str] = None) -> typing.Iterator[typing.Tuple[Row, str]]:
+    """The rows from a place on, each with its token: the same for the same row in any listing, and others for rows that say the same.
+
+    With another word `anew` a row has another token, and is put again.
+    """
     seen = {}
     for number, row in enumerate(rows):
         nth, kind = 1, row.kind == MARKER
@@ -50,7 +58,7 @@ def with_tokens(rows: typing.Iterable[Row], place: int = 0) -> typing.Iterator[t
             kind, about = row.kind, row._replace(where="", tags=None)
             seen[about] = nth = seen.get(about, 0) + 1
         if number >= place:
-            yield row, token_of("row", row.bucket, row.key.hex(), kind, row.size, row.storage_class, sorted((row.tags or {}).items()),
+            yield row, token_of("row", *([anew] if anew else []), row.bucket, row.key.hex(), kind, row.size, row.storage_class, sorted((row.tags or {}).items()),
                                 row.version, row.moment.isoformat() if row.moment else None, nth)
 
 
@@ -121,7 +129,7 @@ def present(office, bucket):
     return found["versions"], found.get("versioning")
 
 
-def put(office, work, row, token):
+def put(office: Office, work: typing.Any, row: Row, token: str) -> typing.Optional[str]:
     """Asks for one version. Its number, or nothing where the program refuses the row for its text."""
     status, found = office.ask(method_of(row), target_of(row), body_of(row), token)
     if status == 400:
@@ -154,7 +162,7 @@ def first_row(work, office, progress):
     return min(place, mapped)
 
 
-def make_buckets(work, office, rows):
+def make_buckets(work: typing.Any, office: Office, rows: typing.Iterable[Row]) -> None:
     """Makes the buckets, and sets the versioning of those into which rows are put."""
     filled = {row.bucket for row in rows}
     for bucket in work.buckets:
@@ -179,17 +187,19 @@ def send_slice(work, office, pairs, place):
     return place
 
 
-def send(work: typing.Any, office: Office, state: str) -> None:
-    """Puts what was not put yet, slice by slice, from the place that was noted last."""
+def send(work: typing.Any, office: Office, state: str, again: typing.Optional[typing.Callable] = None) -> None:
+    """Puts what was not put yet, slice by slice, from the place that was noted last. `again` tries what an earlier try could not put."""
     progress = Progress(state, work.digest, office.name)
     place = first_row(work, office, progress)
     work.taken_up(progress.up_to(place))
     make_buckets(work, office, work.rows[place:])
     progress.begin(place)
-    pairs = with_tokens(work.rows, place)
+    pairs = with_tokens(work.rows, place, work.anew)
     while them := list(itertools.islice(pairs, SLICE)):
         names = len(work.names)
         place = send_slice(work, office, them, place)
-        progress.note(place=place, put=work.counts["put"], markers=work.counts["markers"], refused=work.names[names:])
+        progress.note(place=place, put=work.counts["put"], markers=work.counts["markers"], refused=[list(it) for it in work.names[names:]])
+    if again:
+        again(work, office, progress)
     for bucket in sorted(work.suspended):
         set_versioning(office, bucket, "Suspended")

@@ -58,6 +58,7 @@ class Office:
 
 class Work:
     """What sending asks of an import."""
+    anew = None
 
     def __init__(self, rows, ids=None, versioned=()):
         self.rows, self.all, self.buckets, self.versioned, self.suspended = rows, len(rows), {"logs": None}, set(versioned), set()
@@ -100,6 +101,12 @@ class Tokens(unittest.TestCase):
             self.assertEqual(it.key == b"new", token != tokens.get(it.key))
         for other in (row("a", 2, version="v1"), row("a", version="v2"), row("a", version="v1", kind=MARKER), row("a")):
             self.assertNotIn(next(sending.with_tokens([other]))[1], tokens.values())
+
+    def test_anew(self):
+        rows = [row("a", version="v1"), row("b")]
+        tokens = {token for word in (None, "2", "3") for _, token in sending.with_tokens(rows, 0, word)}
+        self.assertEqual(6, len(tokens))
+        self.assertEqual([*sending.with_tokens(rows)], [*sending.with_tokens(rows, 0, None)])
 
     def test_rows_that_say_the_same(self):
         rows = [row("a", kind=NONCURRENT), row("b"), row("a", kind=NONCURRENT), row("a"), row("a", kind=NONCURRENT)]

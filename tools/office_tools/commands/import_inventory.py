@@ -9,14 +9,15 @@ import sys
 import time
 import urllib.parse
 
+from office_tools.again import try_again
 from office_tools.asking import Office, Stop, add_server, run, words_of
 from office_tools.entries import CLASSES
 from office_tools.extras import send_uploads, tags_for, tags_of, uploads_of
 from office_tools.files import atomic_write
 from office_tools.idmap import IdMap, add_map
 from office_tools.listings import CURRENT, LEFT_OUT, MARKER, SECOND, in_order, rows_of
-from office_tools.sending import body_of, bucket_target, method_of, send, target_of, with_tokens
-from office_tools.tokens import FIELD
+from office_tools.sending import body_of, bucket_target, method_of, name_of, send, target_of, with_tokens
+from office_tools.tokens import FIELD, KEPT
 
 EPILOG = """\
 Ages begin at the import: the program uses its own clock, whatever LastModified says. Meters, minimum durations
@@ -35,7 +36,8 @@ A FILE is a listing, also compressed (.gz). It comes from one of these:
   --uploads FILE  what list-multipart-uploads printed: unfinished uploads
   --parts FILE    lines of JSON of list-parts, each with its UploadId
   --nearest CLASS puts objects of a class that the office does not have into this one; the last line counts
-                  them. Without it they are left out
+                  them. Without it they are refused. Give the same command again with --nearest, and they are
+                  put then, unless their key has newer or other versions by now
 
 A bucket has versions if a row is not current, is a delete marker, or has a version id other than null. Such a
 bucket is made Enabled, and its versions are put oldest first by LastModified; a delete marker is a delete.
@@ -52,8 +54,9 @@ Each row, upload and part has a token of its own (Office-Token). If it is sent a
 first reply and puts nothing twice. The program keeps the last 10,000 such replies. If the server or the tool
 stops in the middle, give the same command again: it continues from the place that the file of --state notes
 every 1,000 rows. Others may use these buckets meanwhile, with fewer than 9,000 tokens. A listing of more than
-9,000 rows into a bucket with versions needs that file; without it nothing is sent. The requests of --out have
-tokens too. What the program refuses (400) is listed with what is left out, and the import goes on.
+9,000 rows into a bucket with versions needs that file; without it nothing is sent. What the program refuses
+(400) is listed with what is left out, and the import goes on. The requests of --out have tokens too: a file of
+up to 10,000 rows may be given to `office run` twice. A note says so if it has more.
 
   import-inventory --schema 'Bucket, Key, Size, StorageClass' --server http://127.0.0.1:8080 part-1.csv.gz part-2.csv.gz
   aws s3api list-object-versions --bucket photos >photos.json
@@ -77,8 +80,8 @@ class Import:
     def __init__(self, given):
         self.names, self.suspended = [], set(given.suspended)
         self.counts = dict.fromkeys(("put", "markers", "refused", "uploads", "parts", *LEFT_OUT), 0)
-        self.buckets, digest = {}, hashlib.sha256()
-        self.nearest, self.mapped, self.ids, self.there = given.nearest, collections.Counter(), None, 0
+        self.buckets, self.anew, digest = {}, given.anew, hashlib.sha256((given.anew or "").encode())
+        self.nearest, self.mapped, self.ids, self.there, self.again = given.nearest, collections.Counter(), None, 0, 0
         self.tags, self.uploads = tags_of(given), uploads_of(given)
         kept = list(self.read(given))
         if self.tags:
@@ -95,7 +98,10 @@ class Import:
             digest.update(repr(row[:4]).encode())
             if row.tags:
                 digest.update(repr(sorted(row.tags.items())).encode())
-        self.all, self.digest = len(self.rows), digest.hexdigest()
+        # An import that goes on with --nearest is the same import.
+        self.all, self.digest, self.mapped_rows = len(self.rows), digest.hexdigest(), set()
+        if self.nearest:
+            self.map_classes()
         self.begun = self.told = time.monotonic()
 
     def read(self, given):
@@ -113,16 +119,15 @@ class Import:
                 self.leave(row, SECOND)
             else:
                 seen.add(same)
-                yield self.as_put(row)
+                yield row if row.kind == MARKER else row._replace(tags=tags_for(self.tags, row))
 
-    def as_put(self, row):
-        """A row with the class in which it is put, and its tags."""
-        if row.kind != MARKER:
-            row = row._replace(tags=tags_for(self.tags, row))
-            if self.nearest and row.storage_class not in (None, *CLASSES):
+    def map_classes(self):
+        """Puts rows of a class that the office does not have into the nearest one."""
+        for place, row in enumerate(self.rows):
+            if row.kind != MARKER and row.storage_class not in (None, *CLASSES):
                 self.mapped[row.storage_class] += 1
-                row = row._replace(storage_class=self.nearest)
-        return row
+                self.mapped_rows.add(place)
+                self.rows[place] = row._replace(storage_class=self.nearest)
 
     def taken_up(self, lines):
         """Counts and names what an earlier try of the same import put and was refused."""
@@ -144,7 +149,7 @@ class Import:
 
     def leave(self, row, kind, why=None):
         self.counts[kind] += 1
-        self.names.append((row.bucket, urllib.parse.quote(row.key, safe="/"), why or kind))
+        self.names.append((*name_of(row), why or kind))
 
     def count(self, row, taken):
         self.counts["markers" if row.kind == MARKER else "put"] += taken
@@ -166,7 +171,7 @@ def requests(work):
         yield request("PUT", bucket_target(bucket))
         if bucket in work.versioned:
             yield request("PUT", f"{bucket_target(bucket)}/versioning", {"Status": "Enabled"})
-    for row, token in with_tokens(work.rows):
+    for row, token in with_tokens(work.rows, 0, work.anew):
         yield request(method_of(row), target_of(row), body_of(row), token)
         work.count(row, 1)
     for bucket in sorted(work.suspended):
@@ -196,6 +201,8 @@ def finish(work, names):
     told = f"put {counts['put']}, delete markers put {counts['markers']}, refused {counts['refused']}; left out: {left}"
     if work.there:
         told += f"; of these {work.there} by an earlier try"
+    if work.again:
+        told += f"; {work.again} refused before and put now"
     if work.uploads:
         told += f"; uploads {counts['uploads']}, parts {counts['parts']}"
     told += "".join(f"; {name} put as {work.nearest}: {count}" for name, count in sorted(work.mapped.items()))
@@ -219,6 +226,7 @@ def main():
     words.add_argument("--state", metavar="FILE", help="how far an import is; the first file and .import if not given")
     add_map(words, False, "keep the store's version ids and their numbers in this SQLite file; for --server")
     words.add_argument("--nearest", metavar="CLASS", choices=CLASSES, help="put objects of a class that the office does not have into this one")
+    words.add_argument("--anew", metavar="WORD", help="put rows again that were put before and removed since: their tokens have this word")
     words.add_argument("--tags", metavar="FILE", action="append", default=[], help="tags, lines of get-object-tagging with a Key each")
     words.add_argument("--uploads", metavar="FILE", action="append", default=[],
                        help="unfinished uploads, of list-multipart-uploads; needs --map")
@@ -233,12 +241,15 @@ def main():
     work = Import(given)
     if given.out:
         write_requests(work, given.out)
+        if work.all > KEPT:
+            print(f"import-inventory: give {given.out} to `office run` once: the program knows the last {KEPT} of its {work.all} rows alone again",
+                  file=sys.stderr)
     else:
         office = Office(given.server)
         work.ids = IdMap(given.map, office.name) if given.map else None
         if work.ids:
             work.ids.alone()
-        send(work, office, given.state or f"{given.files[0]}.import")
+        send(work, office, given.state or f"{given.files[0]}.import", try_again)
         if work.uploads:
             send_uploads(work, office, work.ids)
     finish(work, given.names)
