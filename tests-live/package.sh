@@ -50,6 +50,7 @@ cd .. || exit 1
 check 'no tool left something in the package' '' "$(find there -newer control -type f)"
 check 'the units name programs of the package' '' "$(sed -n 's/^ExecStart=\([^ ]*\).*/\1/p' there/usr/lib/systemd/system/*.service |
     while read -r path; do [ -x "there$path" ] || echo "$path"; done)"
+check 'the unit of the server has both limits on memory' 2 "$(grep -c -e '^LimitAS=' -e '^MemoryMax=' there/usr/lib/systemd/system/office.service)"
 for words in '' '--version' "--version one $program" "--none $program" "$program one two"; do
     # shellcheck disable=SC2086
     check "words that are none, status: $words" 1 "$("$package" $words >said 2>notes; echo $?)"
