@@ -273,6 +273,22 @@ def foretell(office, bucket, day):
     return 0
 
 
+class Door(http.server.ThreadingHTTPServer):
+    daemon_threads = False  # the end of a server waits for its connections
+
+
+def serve(address, *more):
+    """Answers connections: K for each worker, and then saves a checkpoint, or until a signal."""
+    (host, _, port), given = address.rpartition(":"), dict(zip(more[::2], more[1::2]))
+    door = Door((host, int(port)), Handler)
+    if "--connections" not in given:
+        return door.serve_forever()
+    for _ in range(int(given["--connections"]) * int(given.get("--workers", 4))):
+        door.handle_request()
+    door.server_close()
+    return Handler.journal.close(Handler.office)
+
+
 def main(words):
     if words == ["init"]:
         sys.stdout.write("already made\n" if Journal.path.exists() else "made\n")
@@ -301,8 +317,7 @@ def main(words):
     elif words[0] == "bill":
         return bill(Handler.office, words[1], Handler.office.now())
     elif words[0] == "serve":
-        host, _, port = words[2].rpartition(":")
-        http.server.ThreadingHTTPServer((host, int(port)), Handler).serve_forever()
+        serve(*words[2:])
     return 0
 
 
