@@ -23,6 +23,7 @@ LEFT_OUT = {
     "list-object-versions": "needs a store: test_import_versions.py, test_lifecycle_tool.py",
     "store.map": "needs a store: test_beside_a_store.py",
     "dd of=": "needs a damaged journal: backup.sh",
+    "ulimit -v": "a server that does not end: test_limited_memory.py",
 }
 RUN = ("README.md", "docs/OPERATIONS.md", "docs/BILLING.md")
 
