@@ -1,8 +1,15 @@
 #!/usr/bin/env -S python3 -B
 """An office beside a store of three buckets, from the import to the bill: import, events, sweep, apply, and nothing differs; then
-month-end, bill, page and metrics. The store is moto on loopback."""
+month-end, bill, page and metrics. The store is moto on loopback.
+
+OFFICE_SCREENSHOTS=FOLDER keeps what a browser shows of the page there, as PNG, to be looked at.
+"""
+import datetime
 import json
 import os
+import pathlib
+import re
+import shutil
 
 import live
 from a_store import ACCESS, Moto, event, lines, needs_moto
@@ -15,6 +22,7 @@ COLD = {"ID": "cold", "Status": "Enabled", "Filter": {"And": {"Prefix": "raw/", 
 TARIFF = ("[storage]\n" + "\n".join(f"{it} = {price}" for it, price in zip(CLASSES, (23_000, 12_500, 10_000, 4_000, 3_600, 990)))
           + "\n[transition]\n" + "\n".join(f"{it} = 30000" for it in CLASSES[1:]) + "\n")
 BUCKETS = ("photos", "logs", "media")
+BROWSERS = ("chromium", "chromium-browser", "google-chrome")
 
 
 @needs_moto
@@ -137,10 +145,32 @@ class BesideAStore(live.Case):
         self.beside("month-end", "--folder", self.folder, "2024-01")
         said, _ = self.beside("bill", "--unit", "EUR=1000000", "2024-01")
         self.check("the bill: a GiB at 0.023", ["total", "0.023000", "EUR"], next((it.split() for it in said.splitlines() if it.startswith("total")), None))
+        self.check("of a month that is closed", True, "State: closed." in said)
         self.beside("usage-page", "--unit", "EUR=1000000", "--out", "page.html", "2024-01")
-        self.check("the page", True, "0.023" in (self.folder / "page.html").read_text("utf-8"))
+        self.check("the page", "0.023000", re.search(r'id="total">.*?([0-9.]+)<', (self.folder / "page.html").read_text("utf-8"))[1])
+        self.beside("usage-page", "--unit", "EUR=1000000", "--out", "now.html", f"{datetime.datetime.now(datetime.timezone.utc):%Y-%m}")
+        for name in ("page", "now"):
+            self.picture(name)
         self.beside("metrics", "--log", self.log, "--out", "metrics.prom")
-        self.check("metrics", True, 'office_bucket_versions{bucket="photos"}' in (self.folder / "metrics.prom").read_text("utf-8"))
+        found = dict(re.findall(r"^(office_[^ ]+) (.+)$", (self.folder / "metrics.prom").read_text("utf-8"), flags=re.MULTILINE))
+        # photos: two objects a, two under tmp/, gone and new+key, and a delete marker above each of these keys but the last one.
+        wanted = {"office_up": "1", 'office_bucket_versions{bucket="photos"}': "10", 'office_bucket_versions{bucket="media"}': "1",
+                  "office_overdue_buckets": "0", "office_closed_until_timestamp_seconds": "1706745600.000"}
+        self.check("metrics", wanted, {name: found.get(name) for name in wanted})
+        self.check("the time of the sweep", True, float(found["office_last_sweep_timestamp_seconds"]) > 1.7e9)
+
+    def picture(self, name):
+        """A screenshot of a page, if a browser is here."""
+        browser = next(filter(shutil.which, BROWSERS), None)
+        if not browser:
+            return
+        png = self.folder / f"{name}.png"
+        self.ended([browser, "--headless", "--no-sandbox", "--disable-gpu", f"--user-data-dir={self.folder / 'profile'}", "--window-size=1100,1400",
+                    f"--screenshot={png}", (self.folder / f"{name}.html").as_uri()])
+        self.check(f"a screenshot of {name}", b"\x89PNG", png.read_bytes()[:4] if png.exists() else None)
+        if keep := os.environ.get("OFFICE_SCREENSHOTS"):
+            pathlib.Path(keep).mkdir(parents=True, exist_ok=True)
+            shutil.copy(png, keep)
 
 
 if __name__ == "__main__":

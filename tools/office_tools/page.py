@@ -100,6 +100,7 @@ def about(statement, unit, buckets):
     return (f'<p class="state" id="state" data-state="{state}"{as_of}><strong>{state.capitalize()}.</strong> {html.escape(words)}</p>\n{warnings}'
             f'<p>Charge: <strong id="total">{money(statement.report.total, unit)}</strong> {html.escape(unit.name)}. Buckets with use: {buckets}.</p>\n'
             "<p>A GiB-month is 2<sup>30</sup> bytes for the days of this month. Early is what is owed for objects that left their class too early. "
+            "A price is for a GiB-month, and of transitions for 1,000 moves. "
             f"Not billed here: {NOT_BILLED}.</p>\n")
 
 
