@@ -319,5 +319,21 @@ class StoreRefuses(BadInput):
         self.check("each once", [("many", "a", 5), ("many", "b", 6)], sorted(self.puts()))
 
 
+    def test_a_queue_out_of_order(self):
+        """Twenty messages lie between a version and the one below it, which comes last."""
+        self.ask("PUT", "/buckets/many")
+        self.ask("PUT", "/buckets/many/versioning", {"Status": "Enabled"})
+        below, above = event(PUT, "many", "a", 1, "v1"), event(PUT, "many", "a", 2, "v2")
+        queue = self.store.sqs.create_queue(QueueName="events")["QueueUrl"]
+        for it in (above, *(event(PUT, "many", f"k{place}", place, f"w{place}") for place in range(20)), below):
+            self.store.sqs.send_message(QueueUrl=queue, MessageBody=lines(it))
+        words = ("--journal", self.journal, "--map", self.map, "--queue", queue, "--endpoint-url", self.store.url)
+        self.check("all are done", (0, ["puts 22"]), self.tool("follow", *words)[:2])
+        self.check("in the order of the sequencers", [1, 2], [size for _, key, size in self.puts() if key == "a"])
+        about = self.store.sqs.get_queue_attributes(QueueUrl=queue, AttributeNames=["All"])["Attributes"]
+        self.check("all messages are deleted", ("0", "0"), tuple(about[f"ApproximateNumberOfMessages{it}"] for it in ("", "NotVisible")))
+        self.finishes("a queue out of order", "follow", *words)
+
+
 if __name__ == "__main__":
     live.main()

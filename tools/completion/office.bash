@@ -71,7 +71,7 @@ _office_tool() {
     -*,office-month-end) choices='--server --bucket --buckets --journal --most --log --folder --bill --help' ;;
     -*,office-lifecycle) choices='--server --bucket --resource --leave-out --yes --preview --journal --program --until --page --unit --help' ;;
     -*,office-import-inventory)
-        choices='--server --out --schema --bucket --keys --current --suspended --names --state --map --nearest --tags --uploads --parts --help'
+        choices='--server --out --schema --bucket --keys --current --suspended --names --state --map --nearest --anew --tags --uploads --parts --help'
         ;;
     -*,office-follow)
         choices='--server --journal --map --bucket --class --nearest --dead --retry --restored --listen --queue --ask-store --endpoint-url --client --help'

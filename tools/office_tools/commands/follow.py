@@ -18,7 +18,7 @@ FILE has events as SQS, SNS, EventBridge or MinIO deliver them: one JSON text, o
 their envelopes; - is standard input. A file of lines may grow: the tool keeps the place that it reached, and
 leaves an incomplete last line for the next run. --listen answers POST at 127.0.0.1, as a webhook of MinIO or a
 proxy before SNS sends it: 200 after the events are done and kept, 503 if the program gave no reply. --queue
-takes the messages of an SQS queue, and deletes those whose events are kept.
+takes the messages of an SQS queue, up to 100 at a time, and deletes those whose events are kept.
 
   ObjectCreated                      a put
   ObjectRemoved:DeleteMarkerCreated  a delete
@@ -57,6 +57,7 @@ exit codes:
   5  done; some events are dead letters
 """
 SLICE = 10_000
+REPLIES = 10  # of a queue, with up to 10 messages each, whose events are put in order together
 
 
 class Lines:
@@ -208,14 +209,22 @@ def queue(work, store, url):
             return store.call("sqs", operation, QueueUrl=url, **fields)
         except Refused as why:
             raise Stop(2, f"the queue refuses {operation}: {why}") from None
-    while True:
-        found = ask("receive-message", MaxNumberOfMessages=10, WaitTimeSeconds=1)
-        messages = found.get("Messages") or []
-        if not messages:
-            return
+    while messages := together(ask):
         do(work, [{"Messages": messages}])
-        entries = [{"Id": str(place), "ReceiptHandle": it["ReceiptHandle"]} for place, it in enumerate(messages)]
-        ask("delete-message-batch", Entries=entries)
+        for place in range(0, len(messages), 10):
+            entries = [{"Id": str(nth), "ReceiptHandle": it["ReceiptHandle"]} for nth, it in enumerate(messages[place:place + 10])]
+            ask("delete-message-batch", Entries=entries)
+
+
+def together(ask):
+    """The next messages of a queue, of several replies: a queue does not keep the order, and events of one key are put in order here."""
+    messages = []
+    for _ in range(REPLIES):
+        more = ask("receive-message", MaxNumberOfMessages=10, WaitTimeSeconds=1).get("Messages")
+        if not more:
+            break
+        messages += more
+    return messages
 
 
 def given_words():

@@ -40,7 +40,8 @@ it was due.
   office_month_charge, office_bucket_month_charge
                                            charge of this month so far, in units of the prices; only if prices are set
   office_limit, office_used                limits, and with --journal what is used of Buckets, Versions, Uploads, Rules (bytes),
-                                           Tariffs and Journal (bytes), if no bucket was refused
+                                           Tariffs and Journal (bytes), if no bucket was refused. The program does
+                                           not report what is used of Parts and Names
   office_journal_size_bytes, office_last_command_timestamp_seconds, office_closed_until_timestamp_seconds
                                            with --journal; the last is the end of the last closed month
   office_last_sweep_timestamp_seconds      with --log, the file of act-all
