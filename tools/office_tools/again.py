@@ -27,13 +27,13 @@ def refused_rows(work: typing.Any, progress: Progress) -> dict:
 
 
 def held(office, row):
-    """The sizes of the versions of a row's key here, oldest first; nothing for a delete marker."""
+    """The versions of a row's key here, oldest first: the size of each, nothing for a delete marker, and its number."""
     status, found = office.ask("GET", target_of(row))
     if status in (400, 404):
         return []
     if status != 200 or not isinstance(found.get("versions"), list):
         raise Stop(2, f"{row.where}: {reason(status, found)}")
-    return [it.get("size") for it in found["versions"]][::-1]
+    return [(it.get("size"), it.get("version")) for it in found["versions"]][::-1]
 
 
 def why_not(rows, them, refused, here):
@@ -42,7 +42,7 @@ def why_not(rows, them, refused, here):
     if there and there[-1] > min(place for place in them if place in refused):
         return NEWER
     # More than the import put: the last try was stopped among these rows.
-    is_same = len(there) <= len(here) <= len(them) and here == [rows[place].size for place in them][:len(here)]
+    is_same = len(there) <= len(here) <= len(them) and [size for size, _ in here] == [rows[place].size for place in them][:len(here)]
     return None if is_same else CHANGED
 
 
@@ -73,8 +73,24 @@ def put_again(work, office, row, token):
     return None
 
 
+def put_key(work, office, progress, them, refused, tokens):
+    """Puts the refused rows of a key that are not there yet. `them` are the places of all rows of the key."""
+    here = held(office, work.rows[them[0]])
+    why = why_not(work.rows, them, refused, here)
+    for nth, place in enumerate(them):
+        if place not in refused:
+            continue
+        if why:
+            told = f"{WHY}, and {why}"
+        elif nth < len(here):  # the last try was stopped behind it
+            told = work.keep(work.rows[place], here[nth][1])
+        else:
+            told = put_again(work, office, work.rows[place], tokens[place])
+        settle(work, progress, place, refused[place], told)
+
+
 def try_again(work: typing.Any, office: Office, progress: Progress) -> None:
-    """Puts each of these rows once over any number of tries: by its token, and by the state."""
+    """Puts each of these rows once over any number of tries: by its token, by what is there, and by the state."""
     refused = refused_rows(work, progress)
     if not refused:
         return
@@ -87,9 +103,5 @@ def try_again(work: typing.Any, office: Office, progress: Progress) -> None:
     while group := list(itertools.islice(left, SLICE)):
         with work.ids.change() if work.ids else contextlib.nullcontext():
             for them in group:
-                mine = [place for place in them if place in refused]
-                why = why_not(work.rows, them, refused, held(office, work.rows[mine[0]]))
-                for place in mine:
-                    told = f"{WHY}, and {why}" if why else put_again(work, office, work.rows[place], tokens[place])
-                    settle(work, progress, place, refused[place], told)
+                put_key(work, office, progress, them, refused, tokens)
         progress.begin(end)

@@ -65,13 +65,16 @@ def with_tokens(rows: typing.Iterable[Row], place: int = 0, anew: typing.Optiona
 class Progress:
     """The file that says how far an import is: a line that says of which, and a line for each slice that was sent.
 
-    A line tells the rows that were sent so far, those put and those that the program refused.
+    A line tells the rows that were sent so far, those put and those that the program refused. `nearest` is the class with which the import was
+    begun, for classes that are not here; nothing if it had none.
     """
 
-    def __init__(self, path, digest, where):
-        self.path, self.head = path, {"import": digest, "server": where}
+    def __init__(self, path, digest, where, nearest):
+        self.path, self.head, self.nearest = path, {"import": digest, "server": where}, nearest
         self.lines = self.read()
         self.is_begun = bool(self.lines)
+        if self.nearest:
+            self.head["nearest"] = self.nearest
 
     def read(self):
         """The lines of the slices; a last line that is cut short counts for nothing."""
@@ -92,6 +95,7 @@ class Progress:
         if head.get("server") != self.head["server"]:
             raise Stop(1, f"{self.path} says that the import was begun at {head.get('server')}; if the same office is at {self.head['server']} "
                        "now, write that address there, else give another --state")
+        self.nearest = head.get("nearest")
         return found[1:] or [{"place": 0, "put": 0, "markers": 0, "refused": []}]
 
     def place(self):
@@ -189,8 +193,12 @@ def send_slice(work, office, pairs, place):
 
 def send(work: typing.Any, office: Office, state: str, again: typing.Optional[typing.Callable] = None) -> None:
     """Puts what was not put yet, slice by slice, from the place that was noted last. `again` tries what an earlier try could not put."""
-    progress = Progress(state, work.digest, office.name)
+    progress = Progress(state, work.digest, office.name, work.nearest)
     place = first_row(work, office, progress)
+    if progress.nearest != work.nearest and place < work.all:
+        # A version that was refused and one above it that was put may be among the rows that are sent again.
+        begun = f"with --nearest {progress.nearest}" if progress.nearest else "without --nearest"
+        raise Stop(1, f"{state}: this import was begun {begun} and is not done; first give the same words again, then these")
     work.taken_up(progress.up_to(place))
     make_buckets(work, office, work.rows[place:])
     progress.begin(place)

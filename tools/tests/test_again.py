@@ -36,7 +36,8 @@ class Office:
     def reply(self, method, target, body, token):
         key = target.rpartition("/objects/")[2]
         if method == "GET" and "/objects/" in target:
-            return (200, {"versions": [{"size": it} for it in self.stacks[key][::-1]]}) if self.stacks[key] else (404, {"error": "NoSuchKey"})
+            found = [{"size": size, "version": number} for size, number in self.stacks[key][::-1]]
+            return (200, {"versions": found}) if found else (404, {"error": "NoSuchKey"})
         if method == "GET":
             return 200, {"versions": 0, "versioning": "Enabled"}
         if "/objects/" not in target:
@@ -47,7 +48,7 @@ class Office:
             return 400, {"error": "BadSize"}
         if token not in self.kept:
             self.puts.append((key, body["size"], body["class"]))
-            self.stacks[key].append(body["size"])
+            self.stacks[key].append((body["size"], str(len(self.puts))))
             self.kept[token] = 201, {"version": str(len(self.puts))}
         return self.kept[token]
 
@@ -60,7 +61,7 @@ class Work:
         self.mapped_rows = {place for place, it in enumerate(rows) if nearest and it.storage_class == FOREIGN}
         self.rows = [it._replace(storage_class=nearest) if place in self.mapped_rows else it for place, it in enumerate(rows)]
         self.all, self.buckets, self.versioned, self.suspended = len(rows), {"logs": None}, set(versioned), set()
-        self.digest, self.ids = "digest", ids
+        self.digest, self.ids, self.nearest = "digest", ids, nearest
         self.names, self.counts, self.again, self.there = [], collections.Counter(), 0, 0
 
     def count(self, _, taken):
@@ -121,9 +122,9 @@ class Again(unittest.TestCase):
         rows = [row(f"k{it}", it, FOREIGN, f"v{it}") for it in range(8)]
         for lose in range(1, 9):
             self.office = Office()
-            self.send(rows)
-            self.office.count, self.office.lose = 0, lose
             ids = IdMap(os.path.join(self.folder.name, f"map{lose}"))
+            self.send(rows, ids=ids)
+            self.office.count, self.office.lose = 0, lose
             with self.assertRaises(Stop):
                 self.send(rows, "GLACIER", ids)
             work = self.send(rows, "GLACIER", ids)
@@ -134,21 +135,52 @@ class Again(unittest.TestCase):
             os.remove(self.state)
 
     def test_a_stop_with_other_words(self):
-        """The first run is stopped within a slice; the second one has --nearest."""
-        rows = [row(f"k{it}", it, FOREIGN if it in (1, 4) else "STANDARD") for it in range(6)]
-        self.office.lose = 6
-        with self.assertRaises(Stop):
-            self.send(rows)
-        work = self.send(rows, "GLACIER")
-        self.assertEqual((6, 0, 1), (work.counts["put"], work.counts["refused"], work.again))
-        self.assertEqual(sorted((f"k{it}", it) for it in range(6)), sorted(it[:2] for it in self.office.puts))
+        """The first run is stopped within a slice: an older version was refused and a newer one put. The second run has --nearest, and is refused."""
+        rows = [row("a", 1, FOREIGN, "v1", NONCURRENT), row("a", 2, "STANDARD", "v2"), row("b", 3, FOREIGN, "v3"), row("c", 4, version="v4")]
+        for lose in (2, 3, 4):
+            self.office = Office()
+            self.office.lose = lose
+            with self.assertRaises(Stop):
+                self.send(rows, versioned=["logs"])
+            before = list(self.office.puts)
+            with self.assertRaises(Stop) as found:
+                self.send(rows, "GLACIER", versioned=["logs"])
+            self.assertEqual((1, before), (found.exception.args[0], self.office.puts), lose)
+            self.assertIn("was begun without --nearest and is not done", found.exception.args[1])
+            self.send(rows, versioned=["logs"])
+            work = self.send(rows, "GLACIER", versioned=["logs"])
+            self.assertEqual({"a": [2], "b": [3], "c": [4]}, self.sizes(), lose)
+            self.assertEqual((1, 1), (work.counts["refused"], work.again))
+            with self.assertRaises(Stop, msg="a map that was lost is made anew by the first words"):
+                self.send(rows, "GLACIER", IdMap(os.path.join(self.folder.name, f"lost{lose}")), ["logs"])
+            os.remove(self.state)
+
+    def sizes(self):
+        """The sizes of the versions of each key that is there, oldest first."""
+        return {key: [size for size, _ in it] for key, it in self.office.stacks.items() if it}
+
+    def test_a_map_that_is_lost(self):
+        rows = [row("a", 1, version="v1"), row("b", 2, FOREIGN, "v2")]
+        self.send(rows, ids=IdMap(os.path.join(self.folder.name, "first")), versioned=["logs"])
+        self.send(rows, "GLACIER", IdMap(os.path.join(self.folder.name, "first")), ["logs"])
+        self.office.kept.clear()  # also the replies are not kept any more
+        ids = IdMap(os.path.join(self.folder.name, "second"))
+        ids.keep_place("digest", 2)
+        with open(self.state, encoding="utf-8") as file:
+            head, line = map(json.loads, file)
+        line["put"], line["refused"] = 1, [["logs", "b", again.WHY]]
+        with open(self.state, "w", encoding="utf-8") as file:
+            file.write(json.dumps(head) + "\n" + json.dumps(line) + "\n")
+        self.send(rows, "GLACIER", ids, ["logs"])
+        self.assertEqual(2, len(self.office.puts), "what is there is not put again")
+        self.assertEqual("2", ids.number_of("logs", "b", "v2"))
 
     def test_versions(self):
         rows = [row("old", 1, FOREIGN, "v1", NONCURRENT), row("old", 2, "STANDARD", "v2"), row("new", 3, "STANDARD", "v3", NONCURRENT),
                 row("new", 4, FOREIGN, "v4"), row("all", 5, FOREIGN, "v5", NONCURRENT), row("all", 6, FOREIGN, "v6")]
         self.send(rows, versioned=["logs"])
         work = self.send(rows, "GLACIER", versioned=["logs"])
-        self.assertEqual({"old": [2], "new": [3, 4], "all": [5, 6]}, dict(self.office.stacks), "none is put above a newer one")
+        self.assertEqual({"old": [2], "new": [3, 4], "all": [5, 6]}, self.sizes(), "none is put above a newer one")
         why = f"{again.WHY}, and {again.NEWER}"
         self.assertEqual(([("logs", "old", why)], 1), (work.names, work.counts["refused"]))
         self.assertEqual([["logs", "old", why]], [it for line in self.lines() for it in line["refused"]])
@@ -157,9 +189,9 @@ class Again(unittest.TestCase):
     def test_what_others_put_since(self):
         rows = [row("a", 1, FOREIGN), row("b", 2, FOREIGN)]
         self.send(rows)
-        self.office.stacks["a"].append(77)
+        self.office.stacks["a"].append((77, "9"))
         work = self.send(rows, "GLACIER")
-        self.assertEqual({"a": [77], "b": [2]}, {key: it for key, it in self.office.stacks.items() if it}, "is not replaced")
+        self.assertEqual({"a": [77], "b": [2]}, self.sizes(), "is not replaced")
         self.assertEqual([("logs", "a", f"{again.WHY}, and {again.CHANGED}")], work.names)
 
     def test_refused_for_another_reason(self):

@@ -58,7 +58,7 @@ class Office:
 
 class Work:
     """What sending asks of an import."""
-    anew = None
+    anew = nearest = None
 
     def __init__(self, rows, ids=None, versioned=()):
         self.rows, self.all, self.buckets, self.versioned, self.suspended = rows, len(rows), {"logs": None}, set(versioned), set()

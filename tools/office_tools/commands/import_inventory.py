@@ -36,8 +36,8 @@ A FILE is a listing, also compressed (.gz). It comes from one of these:
   --uploads FILE  what list-multipart-uploads printed: unfinished uploads
   --parts FILE    lines of JSON of list-parts, each with its UploadId
   --nearest CLASS puts objects of a class that the office does not have into this one; the last line counts
-                  them. Without it they are refused. Give the same command again with --nearest, and they are
-                  put then, unless their key has newer or other versions by now
+                  them. Without it they are refused. Once the import is done, give the same command again with
+                  --nearest: they are put then, unless their key has newer or other versions by now
 
 A bucket has versions if a row is not current, is a delete marker, or has a version id other than null. Such a
 bucket is made Enabled, and its versions are put oldest first by LastModified; a delete marker is a delete.
