@@ -186,6 +186,29 @@ class Copies(live.Case):
             self.put(history.closed(), data, b"")
             self.check(name, wanted, self.backup()[0])
 
+    def test_a_bit_of_a_slot_flips(self):
+        """In a count of bytes of a meter, say: the slot decodes, is of this journal, and has another number."""
+        history = filled(6)
+        slot, found = history.slot(), 0
+        self.put(history.closed(), slot, b"")
+        self.assertEqual(0, self.backup()[0])
+        copy, = self.copies.glob(f"check.0{STAMP}")
+        for at in range(17, len(slot), max(5, len(slot) // 30)):
+            changed = slot[:at] + bytes([slot[at] ^ 1]) + slot[at + 1:]
+            self.put(history.closed(), changed, b"")
+            status, _, _ = self.run_tool("journal-dump", "--check", "--slots", self.journal)
+            if status == 0:
+                found += 1
+                status, said, note = self.run_tool("backup", self.journal, self.copies)
+                self.check(f"byte {at}", (8, "", f"backup: {self.data / SLOTS[0]}: byte {at} is not what it is in {copy}, of the same position "
+                                          f"{int.from_bytes(slot[1:9], 'big')}: one of them changed; no copy is kept"), (status, said, note))
+        self.assertGreater(found, 3, "journal-dump does not see some of them")
+        self.put(history.closed(), slot + b"bytes of a longer one before", b"")
+        self.check("as it was", 0, self.backup()[0])
+        self.check("the copies", [["check.0", "journal"]] * 2, self.copied())
+        (self.data / SLOTS[0]).unlink()
+        self.check("without it", 0, self.backup()[0])
+
     def save(self, history, place):
         """Saves a slot as the program does: the gate is closed first, and opened last."""
         data = history.slot()

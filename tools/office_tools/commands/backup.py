@@ -33,7 +33,8 @@ blocks. If an earlier block changed, it keeps no copy and removes none (exit cod
 The checkpoints beside the journal, check.0 and check.1, are copied first, as check.0-YYYYMMDDTHHMMSSZ and
 check.1-YYYYMMDDTHHMMSSZ. So no copied checkpoint is newer than its journal. One that is empty, closed or
 damaged is left out, since the program passes over it too. One of another journal, perhaps left beside an older
-copy, is refused (exit code 8): the program would begin with it.
+copy, is refused (exit code 8): the program would begin with it. So is one whose bytes are not those of an
+earlier copy with the same position.
 
 To restore: stop the program, put a copy in the place of office-data/journal, and remove check.0 and check.1
 beside it, or replace them by the copies with the same ending. Without them the program reads the whole journal.
@@ -49,7 +50,7 @@ exit codes:
   5  the journal is not made, foreign or damaged; no copy is kept, and none is removed
   6  the front of the journal changed; no copy is kept, and none is removed
   7  FOLDER/journal.digest is damaged: move it away, and the next copy begins a new one
-  8  a checkpoint is of another journal; no copy is kept, and none is removed
+  8  a checkpoint is of another journal, or its bytes changed; no copy is kept, and none is removed
 """
 
 
@@ -161,6 +162,18 @@ def check_slots(whole, part, blocks):
                        f"{it.slot.position}; no copy is kept. journal-dump --check --slots says more")
 
 
+def same_bytes(whole, folder):
+    """Refuses a checkpoint whose bytes are not those of an earlier copy of it: a journal has one checkpoint for a position."""
+    for path in sorted(glob.glob(os.path.join(glob.escape(folder), "check.[01]-*Z")), reverse=True):
+        with open_file(path) as file:
+            data = file.read()
+        for it in whole:
+            if data[:HEAD] == it.data[:HEAD] and data != it.data[:len(data)]:
+                at = next(place for place, (one, other) in enumerate(zip(data, it.data)) if one != other)
+                raise Stop(8, f"{it.path}: byte {at} is not what it is in {path}, of the same position {it.slot.position}: one of them changed; "
+                           "no copy is kept")
+
+
 def remove_copy(path):
     """Removes a copy, its checkpoints first."""
     for it in [*paths_beside(path), path]:
@@ -204,6 +217,8 @@ def main():
         copy(given.journal, part)
         blocks = blocks_of(given, part, digest, before)
         check_slots(whole, part, blocks)
+        if not given.replaced:
+            same_bytes(whole, given.folder)
         if given.replaced and os.path.exists(digest):
             os.rename(digest, f"{digest}-until-{now}")
         write_blocks(digest, blocks)
