@@ -30,7 +30,7 @@ def user():
     return ["runuser", "-u", "postgres", "--"] if shutil.which("runuser") else None
 
 
-needs_postgres = unittest.skipUnless(folder_of_programs() and shutil.which("psql") and user() is not None, "no postgres")
+needs_postgres = unittest.skipUnless(folder_of_programs() and shutil.which("psql") and user() is not None, "no psql")
 
 
 class Postgres:
