@@ -51,5 +51,13 @@ class Limits(unittest.TestCase):
         self.assertIn(f"ulimit -v {size_of(setting('LimitAS')) // 1024};", OPERATIONS)
 
 
+class Journal(unittest.TestCase):
+    def test_what_the_server_says(self):
+        """Starts, ends and notes go to the journal of systemd: the unit sends no output elsewhere, and counts a start once the program is there."""
+        self.assertEqual([], re.findall(r"^Standard(?:Output|Error)=.*|^LogLevelMax=.*", UNIT, flags=re.MULTILINE))
+        self.assertEqual("exec", setting("Type"))
+        self.assertEqual("/usr/bin/office serve $OFFICE_OPTIONS", setting("ExecStart"))
+
+
 if __name__ == "__main__":
     unittest.main()

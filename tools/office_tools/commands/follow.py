@@ -32,7 +32,8 @@ Events of one key are done in the order of their sequencers, each once. A repeat
 bucket without versions a late one too. Dead letters get these, each once with its reason, and the other events
 go on:
 
-  - a late version in a bucket with versions, because it cannot be put below a newer one
+  - a late version in a bucket with versions, because it cannot be put below a newer one. To bring it in, remove
+    the versions of its key in the program, and import that key with import-inventory --anew; then --retry
   - what is not an event
   - what the program refuses
 
