@@ -120,7 +120,8 @@ class Limited(live.Case):
             before = len(entries_of(self.folder / "served"))
             found.append(self.ask(port, request("PUT", "/buckets/load/objects/large", '{"size":1}'.ljust(1_000_000))))
             done = len(entries_of(self.folder / "served")) - before
-            self.check(f"step {step}: 500 or done, and the journal says so", (True, found[-1][0] == 201), (found[-1] == LACKS or found[-1][0] == 201, done == 1))
+            self.check(f"step {step}: 500 or done, and the journal says so", (True, found[-1][0] == 201),
+                       (found[-1] == LACKS or found[-1][0] == 201, done == 1))
             self.check(f"step {step}: and it goes on", 201, self.ask(port, put_object(f"after-{step}"))[0])
             self.stop(server)
             if found[-1][0] == 201:

@@ -9,7 +9,8 @@ PAGE = (live.ROOT / "docs" / "SCALING.md").read_text("utf-8")
 # By row of the table: where bench/shards.py prints it.
 PLACES = (("offices, each a process", r"^  (\d+) offices,"), ("of them above the limit after a year", r"after a year (\d+ \([\d.]+%\)) are above"),
           ("memory in all", r"memory (\d+ GiB) in all"), ("machines of 256 GiB", r"an office; (\d+) machines of 256 GiB"),
-          ("journals after a year, in three copies", r"three copies (\d+ GiB)"), ("syncs a second a machine; one disk took 19686", r"([\d.]+) syncs a second a machine"),
+          ("journals after a year, in three copies", r"three copies (\d+ GiB)"),
+          ("syncs a second a machine; one disk took 19686", r"([\d.]+) syncs a second a machine"),
           ("a night's sweep", r"takes (\d+ s) on each machine"), ("start of a machine, without checkpoints", r"entries in (\d+ s) on"))
 
 

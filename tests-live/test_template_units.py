@@ -24,7 +24,8 @@ class Templates(live.Case):
             for it in settings:
                 for path in re.findall(r"(?:/var/lib/|/var/backups/|/etc/|%S/)office[^ \"]*", it):
                     self.check(f"{name}: {it}", True, "/%i" in path)
-            self.check(f"{name}: its lines but for these", [], [it for it in settings if re.match("(State|Cache)Directory=|User=|EnvironmentFile=", it) and "%i" not in it])
+            of_one = [it for it in settings if re.match("(State|Cache)Directory=|User=|EnvironmentFile=", it)]
+            self.check(f"{name}: its folders, user and options", [], [it for it in of_one if "%i" not in it])
         self.check("the server", ["User=office-%i", "StateDirectory=office/%i", "WorkingDirectory=%S/office/%i", "EnvironmentFile=/etc/office/%i"],
                    [it for want in ("User", "StateDirectory", "WorkingDirectory", "EnvironmentFile") for it in self.texts["office.service"].splitlines()
                     if it.startswith(f"{want}=")])

@@ -58,8 +58,8 @@ def with_tokens(rows: typing.Iterable[Row], place: int = 0, anew: typing.Optiona
             kind, about = row.kind, row._replace(where="", tags=None)
             seen[about] = nth = seen.get(about, 0) + 1
         if number >= place:
-            yield row, token_of("row", *([anew] if anew else []), row.bucket, row.key.hex(), kind, row.size, row.storage_class, sorted((row.tags or {}).items()),
-                                row.version, row.moment.isoformat() if row.moment else None, nth)
+            yield row, token_of("row", *([anew] if anew else []), row.bucket, row.key.hex(), kind, row.size, row.storage_class,
+                                sorted((row.tags or {}).items()), row.version, row.moment.isoformat() if row.moment else None, nth)
 
 
 class Progress:
