@@ -51,7 +51,7 @@ fn open_journal<R: Files<File = File>>(rt: &R) -> io::Result<File> {
 
 // The files of the folder, which is made where it is not there. There are none where the folder cannot be made, the
 // journal cannot be opened, or their names cannot be made durable.
-fn open_files<R: Files<File = File>>(rt: &R) -> io::Result<FileDisk> {
+fn open_files<R: Files<File = File>>(rt: &R) -> io::Result<FileDisk<File>> {
     fs::create_dir_all(rt, FOLDER)?;
     let journal = open_journal(rt)?;
     let first = open_spare(rt, "office-data/check.0")?;
@@ -79,7 +79,7 @@ fn open_disk<R: Files<File = File> + Alloc<A = Global>>(
     rt: &R,
     words: &[String],
     held: bool,
-) -> io::Result<FileDisk> {
+) -> io::Result<FileDisk<File>> {
     if !asks_for_files(rt, words)? || !held {
         return Ok(FileDisk::new(None, None, None));
     }

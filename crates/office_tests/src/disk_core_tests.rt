@@ -86,7 +86,8 @@ fn files_hold_what_was_written(rt: HostRuntime) -> Result<(), Fail> {
 #[test]
 fn a_disk_tells_its_block(rt: HostRuntime) -> Result<(), Fail> {
     let alloc = rt.alloc();
-    assert_eq!(rt; FileDisk::new(None, None, None).block(), 4_096);
+    let no_file: Option<File> = None;
+    assert_eq!(rt; FileDisk::new(no_file, None, None).block(), 4_096);
     assert_eq!(rt; MemoryDisk::new(alloc, Vec::new(alloc)).block(), 0);
     assert_eq!(rt;
         MemoryDisk::with_block(alloc, Vec::new(alloc), 16).block(),
