@@ -8,7 +8,8 @@
 # error here. Needs leave to trace a process.
 set -u
 
-tools='awk curl grep strace'
+root=$(CDPATH='' cd -- "$(dirname -- "$0")/.." && pwd) || exit 1
+tools='awk curl grep python3 strace'
 . "$(dirname -- "$0")/common"
 cd "$work" || exit 1
 if ! strace -o probe true 2>/dev/null; then
