@@ -90,7 +90,8 @@ def rows(entry: table.Entry) -> typing.Iterator[str]:
 def before(entry: table.Entry, cell: table.Cell) -> str:
     """The words before the answers of a line."""
     word = {kept.AFTER: "then", kept.NEVER: "never"}.get(cell.kind)
-    return (f"{word}, on an honest disk: " if table.is_honest(entry, cell) else f"{word}: ") if word else ""
+    disk = table.disk_of(entry, cell)
+    return (f"{word}, {disk}: " if disk else f"{word}: ") if word else ""
 
 
 def named(cells: list[table.Cell], pattern: str) -> str:

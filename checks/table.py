@@ -147,9 +147,12 @@ def cells_of(of: Repository, call: sources.Call, told: list[str], row: kept.Row,
         yield found
 
 
-def is_honest(entry: Entry, cell: Cell) -> bool:
-    """Whether the clauses speak of an honest disk only."""
-    return any("honest →" in entry.call.clauses.get(name, "") for name, _ in cell.clauses)
+def disk_of(entry: Entry, cell: Cell) -> str:
+    """Of which disk alone the clauses speak; empty if of any."""
+    clauses = [entry.call.clauses.get(name, "") for name, _ in cell.clauses]
+    if any("honest →" in it for it in clauses):
+        return "on an honest disk"
+    return "on a disk that tells" if any("tells →" in it for it in clauses) else ""
 
 
 def unsaid(of: Repository, call: sources.Call, cell: Cell) -> typing.Iterator[str]:
