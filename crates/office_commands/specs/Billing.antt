@@ -3,7 +3,7 @@
 use Rattle.std.specs.Prelude.{◌≡◌, ◌⊎◌, ℕ, ◌<◌, ◌≤◌, ◌^◌, List, length, ◌++◌, Some, None, Result, Ok, Err, IfOk, IsTrue, IsSome, Bool, true, false, codes, decimal}
 use Rattle.disk_core.specs.declared.disk.Disk as disks
 use Rattle.disk_core.specs.Fronts.{Narrower}
-use Rattle.disk_core.specs.Moments.{KeepsTo}
+use Rattle.disk_core.specs.Moments.{KeepsTo, WritesNothing}
 use Rattle.office_base.specs.Maps.{at_number}
 use Rattle.office_types.specs.declared.command.Entry.{Entry}
 use Rattle.office_types.specs.declared.command.Query.TheVariants as query
@@ -134,6 +134,7 @@ module _ {D C W K : Type 0} (d : disks.Ghosts D) (w : sinks.Ghosts W) (b : keepe
   pub record BillsMonth (one : Billing K) (first : ℕ) (old new : Surroundings D C W) (status : ℕ) : Type 0 where
     pub desk : DeskView D C
     pub opens : Opens d old.disk old.clock journal_limit desk
+    pub writes : WritesNothing d old.disk new.disk
     pub any_moment : IsTrue d.honest → KeepsTo d old.disk new.disk (Narrower (d.state old.disk))
     pub quiet : d.fault_count new.disk ≡ d.fault_count old.disk
     pub clock : new.clock ≡ old.clock

@@ -2,7 +2,7 @@
 use Rattle.std.specs.Prelude.{◌≡◌, ◌⊎◌, ℕ, List, IsTrue}
 use Rattle.disk_core.specs.declared.disk.Disk as disks
 use Rattle.disk_core.specs.Fronts.{Narrower}
-use Rattle.disk_core.specs.Moments.{KeepsTo}
+use Rattle.disk_core.specs.Moments.{KeepsTo, WritesNothing}
 use Rattle.desk_core.specs.declared.clock.Clock as clocks
 use Rattle.stay_explain.specs.Explaining.{IsTableOf}
 use Rattle.http_front.specs.declared.replies.Replies as sinks
@@ -15,7 +15,7 @@ module _ {D : Type 0} (d : disks.Ghosts D) where
   -- nothing the text is some journal's table, and never made up.
   pub record ReadsTable (disk : D) (text : List ℕ) : Type 0 where
     pub file : List ℕ
-    pub seen : IsTrue d.honest → file ≡ (d.state disk).journal.seen
+    pub seen : IsTrue d.tells → file ≡ (d.state disk).journal.seen
     pub table : IsTableOf file text
 
 module _ {D C W : Type 0} (d : disks.Ghosts D) (k : clocks.Ghosts C) (w : sinks.Ghosts W) where
@@ -24,6 +24,7 @@ module _ {D C W : Type 0} (d : disks.Ghosts D) (k : clocks.Ghosts C) (w : sinks.
   pub record TellsTable (old new : Surroundings D C W) (status : ℕ) : Type 0 where
     pub text : List ℕ
     pub table : ReadsTable d old.disk text
+    pub writes : WritesNothing d old.disk new.disk
     pub any_moment : IsTrue d.honest → KeepsTo d old.disk new.disk (Narrower (d.state old.disk))
     pub quiet : d.fault_count new.disk ≡ d.fault_count old.disk
     pub clock : new.clock ≡ old.clock
@@ -32,7 +33,7 @@ module _ {D C W : Type 0} (d : disks.Ghosts D) (k : clocks.Ghosts C) (w : sinks.
   -- The journal could not be read from its first gate on: its bytes tell why.
   pub record FailsToRead (old new : Surroundings D C W) (status : ℕ) : Type 0 where
     pub fault : OpenFault
-    pub why : IsTrue d.honest → OpenFails fault (d.state old.disk).journal.seen
+    pub why : IsTrue d.tells → OpenFails fault (d.state old.disk).journal.seen
     pub refused : IsRefused d k w fault old new status
 
   -- so `explain` does, or the journal is refused

@@ -3,7 +3,7 @@ use Rattle.std.specs.Prelude.{◌≡◌, ◌⊎◌, ◌≤◌, ◌<◌, ℕ, tru
 use Rattle.moments.specs.Months.{month_at}
 use Rattle.disk_core.specs.declared.disk.Disk as disks
 use Rattle.disk_core.specs.Fronts.{Narrower}
-use Rattle.disk_core.specs.Moments.{KeepsTo}
+use Rattle.disk_core.specs.Moments.{KeepsTo, WritesNothing}
 use Rattle.rules_core.specs.Configurations.{Configuration}
 use Rattle.rules_json.specs.Reading.{rules_of}
 use Rattle.office_types.specs.declared.command.Entry.{Entry}
@@ -132,6 +132,7 @@ module _ {D C W : Type 0} (d : disks.Ghosts D) (w : sinks.Ghosts W) where
       (status : ℕ) : Type 0 where
     pub desk : DeskView D C
     pub opens : Opens d old.disk old.clock journal_limit desk
+    pub writes : WritesNothing d old.disk new.disk
     pub any_moment : IsTrue d.honest → KeepsTo d old.disk new.disk (Narrower (d.state old.disk))
     pub quiet : d.fault_count new.disk ≡ d.fault_count old.disk
     pub clock : new.clock ≡ old.clock

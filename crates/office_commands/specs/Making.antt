@@ -1,9 +1,9 @@
 -- What making a journal does.
-use Rattle.std.specs.Prelude.{◌≡◌, ◌⊎◌, ℕ, List, [], IsTrue}
+use Rattle.std.specs.Prelude.{◌≡◌, ◌⊎◌, ℕ, false, List, [], IsTrue}
 use Rattle.disk_core.specs.declared.disk.Disk as disks
 use Rattle.disk_core.specs.Files.{State, IsImage, synced_file}
 use Rattle.disk_core.specs.Fronts.{Narrower}
-use Rattle.disk_core.specs.Moments.{KeepsTo}
+use Rattle.disk_core.specs.Moments.{KeepsTo, WritesNothing}
 use Rattle.meter_journal.specs.Created.{BeforeOrEmpty}
 use Rattle.meter_journal.specs.Reading.{IsMade, IsNotMade, CreateFails}
 use Rattle.meter_journal.specs.declared.fault.OpenFault.{OpenFault}
@@ -22,18 +22,23 @@ IsMadeSo mades.Now old new =
 IsMadeSo mades.Before old new = IsMade old.journal.seen × (new.journal ≡ synced_file old.journal.seen)
 
 module _ {D W : Type 0} (d : disks.Ghosts D) (w : sinks.Ghosts W) where
-  -- it is there, this was put out, and the disk did not fail
+  -- it is there, this was put out, and the disk did not fail; one that was made before was not written, and nothing of
+  -- the journal is left to be synced
   pub record Makes (old new : D) (out_old out_new : W) (status : ℕ) : Type 0 where
     pub made : Made
     pub is_made : IsTrue d.honest → IsMadeSo made (d.state old) (d.state new)
+    pub kept : made ≡ mades.Before → WritesNothing d old new
+    pub nothing_left : (d.tally new).journal ≡ false
     pub quiet : d.fault_count new ≡ d.fault_count old
     pub told : IsPutOut w (made_line made) out_old out_new status
 
-  -- it was not made, and nothing was put out; where the disk failed that is told, and nothing else
+  -- it was not made, and nothing was put out; where the disk failed that is told, and nothing else; else nothing was
+  -- written
   pub record FailsToMake (old new : D) (out_old out_new : W) (status : ℕ) : Type 0 where
     pub fault : OpenFault
     pub why : IsTrue d.honest → CreateFails fault (d.state old).journal.seen
     pub quiet : (fault ≡ faults.StoreFault → ⊥) → d.fault_count new ≡ d.fault_count old
+    pub writes : (fault ≡ faults.StoreFault → ⊥) → WritesNothing d old new
     -- a foreign file reads as before
     pub kept : IsTrue d.honest → fault ≡ faults.Foreign → (d.state new).journal ≡ synced_file (d.state old).journal.seen
     pub silent : w.texts out_new ≡ w.texts out_old

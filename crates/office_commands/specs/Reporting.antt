@@ -2,7 +2,7 @@
 use Rattle.std.specs.Prelude.{◌≡◌, ◌⊎◌, ℕ, Bool, true, false, List, Result, Ok, Err, IsTrue}
 use Rattle.disk_core.specs.declared.disk.Disk as disks
 use Rattle.disk_core.specs.Fronts.{Narrower}
-use Rattle.disk_core.specs.Moments.{KeepsTo}
+use Rattle.disk_core.specs.Moments.{KeepsTo, WritesNothing}
 use Rattle.office_types.specs.declared.command.Entry.{Entry}
 use Rattle.office_types.specs.declared.command.Query.TheVariants as query
 use Rattle.office_types.specs.declared.reply.Reply.{Reply}
@@ -48,6 +48,7 @@ module _ {D C W : Type 0} (d : disks.Ghosts D) (w : sinks.Ghosts W) where
     where
       pub desk : DeskView D C
       pub opens : Opens d old.disk old.clock journal_limit desk
+      pub writes : WritesNothing d old.disk new.disk
       pub any_moment : IsTrue d.honest → KeepsTo d old.disk new.disk (Narrower (d.state old.disk))
       pub quiet : d.fault_count new.disk ≡ d.fault_count old.disk
       pub clock : new.clock ≡ old.clock

@@ -5,7 +5,7 @@ use Rattle.moments.specs.Time.{end_of_time}
 use Rattle.office_base.specs.Faults.{Rose}
 use Rattle.disk_core.specs.declared.disk.Disk as disks
 use Rattle.disk_core.specs.Fronts.{Narrower}
-use Rattle.disk_core.specs.Moments.{KeepsTo}
+use Rattle.disk_core.specs.Moments.{KeepsTo, WritesNothing}
 use Rattle.meter_journal.specs.declared.fault.OpenFault.{OpenFault}
 use Rattle.meter_journal.specs.declared.fault.OpenFault.TheVariants.{StoreFault}
 use Rattle.desk_core.specs.declared.clock.Clock as clocks
@@ -112,10 +112,11 @@ module _ {D C W : Type 0} (d : disks.Ghosts D) (k : clocks.Ghosts C) (w : sinks.
 
   -- ---- both
 
-  -- It ends by this fault: nothing was said or told, and each image is one that there was. Where the disk failed that is
-  -- told, and nothing else.
+  -- It ends by this fault: nothing was said, told or written, and each image is one that there was. Where the disk
+  -- failed that is told, and nothing else.
   pub record IsRefused (fault : OpenFault) (old new : Surroundings D C W) (status : ℕ) : Type 0 where
     pub quiet : (fault ≡ StoreFault → ⊥) → d.fault_count new.disk ≡ d.fault_count old.disk
+    pub writes : WritesNothing d old.disk new.disk
     pub any_moment : IsTrue d.honest → KeepsTo d old.disk new.disk (Narrower (d.state old.disk))
     pub clock : new.clock ≡ old.clock
     pub silent : IsSilent w old.out new.out
@@ -125,7 +126,7 @@ module _ {D C W : Type 0} (d : disks.Ghosts D) (k : clocks.Ghosts C) (w : sinks.
   -- The office was not opened, and the files as they are read tell why.
   pub record FailsToOpen (old new : Surroundings D C W) (status : ℕ) : Type 0 where
     pub fault : OpenFault
-    pub why : IsTrue d.honest → OpenFailsOn fault (d.state old.disk)
+    pub why : IsTrue d.tells → OpenFailsOn fault (d.state old.disk)
     pub refused : IsRefused fault old new status
 
   -- The clock is at its end: nothing was said or told, and the disk was not touched.

@@ -2,7 +2,7 @@
 ghost use Rattle.std.specs.Prelude.{◌≡◌, ◌≤◌, ◌<◌, List, IfOk, IfErr, IsTrue};
 ghost use Rattle.office_base.specs.Faults.{Rose};
 ghost use Rattle.meter_journal.specs.Reading.{HasStoreCause};
-ghost use Rattle.disk_core.specs.Moments.{Untouched};
+ghost use Rattle.disk_core.specs.Moments.{OnlyReads};
 ghost use Rattle.office_types.specs.declared.command.Entry.{Entry};
 ghost use Rattle.desk_core.specs.Damage.{OpenFails};
 ghost use Rattle.desk_core.specs.Histories.{HasAcceptedHistory};
@@ -30,8 +30,8 @@ fn table<D: Disk, R: Threads + Sync>(
 ) -> Result<Vec<u8>, OpenFault>
     requires few { (1 ≤ workers) × (workers ≤ 64) }
     ensures table { IfOk result (λ text. ReadsTable D.Disk disk.old text.items) }
-    ensures fails { IsTrue D.honest → IfErr result (λ fault. OpenFails fault (D.state disk.old).journal.seen) }
-    ensures untouched { IsTrue D.honest → Untouched D.Disk disk.old disk.new }
+    ensures fails { IsTrue D.tells → IfErr result (λ fault. OpenFails fault (D.state disk.old).journal.seen) }
+    ensures untouched { OnlyReads D.Disk disk.old disk.new }
     ensures cause { HasStoreCause (D.fault_count disk.old) (D.fault_count disk.new) result }
 {
     match read_all(alloc, disk) {

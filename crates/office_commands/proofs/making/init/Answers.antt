@@ -11,6 +11,8 @@ returns-in-Ok-clause-inits g c =
       ends = inl (record {
         made = c.in-Ok.made;
         is_made = λ tells. made_so c.in-Ok.made (d.state c.args.disk.now) (d.state c.create.new.disk) (c.in-Ok.ensures.before tells) (c.in-Ok.ensures.now tells);
+        kept = c.in-Ok.ensures.writes;
+        nothing_left = c.in-Ok.ensures.nothing_left;
         quiet = c.in-Ok.ensures.cause.quiet (λ is. absurd cc);
         told = subst (λ (t : List ℕ). IsPutOut w t c.args.out.now c.say.new.out c.say.result) c.made_text.ensures c.say.ensures.told;
       });

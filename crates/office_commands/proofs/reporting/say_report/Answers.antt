@@ -1,30 +1,29 @@
-use Rattle.std.proofs.Common.{◌≡◌, ◌∙◌, [], inr, sym, subst, List}
-use Rattle.disk_core.specs.Fronts.{Narrower}
-use Rattle.disk_core.specs.Moments.{KeepsTo}
+use Rattle.std.proofs.Common.{◌∙◌, [], sym, subst, List}
 use Rattle.office_types.specs.declared.command.Entry.{Entry}
 use Rattle.desk_core.specs.Histories.{HasAcceptedHistory}
 use Rattle.desk_core.specs.Opening.{opened_with}
+use Rattle.office_commands.proofs.Closed.{same_disk, left, shown}
 use Rattle.office_commands.proofs.MonthTold.{report_reply}
 use Rattle.office_commands.proofs.reporting.say_report.Goals as goal
 
 pub say_reply-status-requires-clause-of_report : goal.say_reply-status-requires-clause-of_report
 say_reply-status-requires-clause-of_report g c =
-    let reads = c.requires.opens.2.reads in
-    let stands = reads.stands reads.shown.0 reads.shown.1 in
-    report_reply c.args.told c.args.month stands.plain c.look-reply.result (c.look-reply.ensures.answered stands.plain stands.stands)
+    let office = shown c.requires.opens.2 in
+    report_reply c.args.told c.args.month office.0 c.look-reply.result (c.look-reply.ensures.answered office.0 office.1)
 
 pub returns-clause-disk : goal.returns-clause-disk
-returns-clause-disk g c = (c.finish-disk.ensures.closes.untouched (inr (sym c.requires.opens.2.opened_at))).0
+returns-clause-disk g c = same_disk c.requires.opens.2 c.finish-disk.ensures.closes
 
 pub returns-clause-tells : goal.returns-clause-tells
 returns-clause-tells g c disk clock opens =
     let d = g.D.Disk in
-    let same = (c.finish-disk.ensures.closes.untouched (inr (sym opens.opened_at))).0 in
+    let stays = left opens c.finish-disk.ensures.closes in
     record {
       desk = c.args.desk;
       opens = opens;
-      any_moment = λ tells. subst (λ (x : g.row.D.Denot). KeepsTo d disk x (Narrower (d.state disk))) (sym same) (opens.reads.any_moment tells);
-      quiet = subst (λ (x : g.row.D.Denot). d.fault_count x ≡ d.fault_count disk) (sym same) opens.reads.quiet;
+      writes = stays.writes;
+      any_moment = stays.any_moment;
+      quiet = stays.quiet;
       clock = c.finish-disk.ensures.clock ∙ opens.clock_is;
       reply = c.look-reply.result;
       answered = c.look-reply.ensures.answered;
