@@ -25,7 +25,7 @@ module _ {D C : Type 0} (d : disks.Ghosts D) (t number : ℕ) (before : Tail) (o
   carried_synced : (call : Asked) (said : Answer) → CarriesOut d t call hold.office.plain before old new said.reply → IsNotKept call old.office
       → IsTrue (is_accepted said.reply) → IsDurable (d.tally old.disk) (d.tally new.disk)
   carried_synced call said carries not_kept accepted =
-      ⊎_elim (λ grew. grew.1.durable) (λ stayed. absurd (both_ways _ written stayed.0)) carries.grows
+      ⊎_elim (λ grew. grew.1.durable) (λ stayed. absurd (both_ways _ stayed.0 written)) carries.grows
     where
       fresh : kept_for call.token hold.office.plain ≡ None
       fresh = fresh_in call.token old.office hold.office.plain hold.office.stands not_kept
@@ -43,8 +43,8 @@ module _ {D C : Type 0} (d : disks.Ghosts D) (t number : ℕ) (before : Tail) (o
   in_time_synced question (Err fault) keeps = tt
 
   ended_synced : (question : Ask) (said : Answer) → is_accepted said.reply ≡ false → Synced question (Ok said)
-  ended_synced (ask.Command command) said refused = λ _ accepted. absurd (both_ways _ accepted refused)
-  ended_synced (ask.Once token command) said refused = λ _ accepted. absurd (both_ways _ accepted refused)
+  ended_synced (ask.Command command) said refused = λ _ accepted. absurd (both_ways _ refused accepted)
+  ended_synced (ask.Once token command) said refused = λ _ accepted. absurd (both_ways _ refused accepted)
   ended_synced (ask.Query query) said refused = tt
 
   pub synced_so : (question : Ask) (said : Result Answer DeskFault) → AnswersAt d (call_time t number) question hold.office.plain before old new said → Synced question said
