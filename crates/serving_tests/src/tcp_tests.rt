@@ -1,7 +1,7 @@
 // Workers on an office in memory, over a port of the network.
 use desk_core::{Desk, ListClock};
 use disk_core::{Disk, FileNo, MemoryDisk};
-use serving::{OpenGate, Port, PortFault, TcpPort, WorkerEnd, serve};
+use serving::{Binder, OpenGate, Port, PortFault, TcpPort, WorkerEnd, serve};
 use std::alloc::Global;
 use std::io::{Read, Write};
 use std::net::{Net, Shutdown, TcpListener, TcpStream};
@@ -32,9 +32,9 @@ fn made_desk(alloc: Global) -> Result<Desk<MemoryDisk, ListClock>, Fail> {
 }
 
 // A connection to a port of this machine, by which these bytes were sent and no more will be.
-fn connected<N: Net<Listener = TcpListener, Stream = TcpStream>>(
+fn connected<N: Net<Listener = TcpListener, Stream = TcpStream>, B: Binder>(
     net: &N,
-    port: &TcpPort<'_, N>,
+    port: &TcpPort<B>,
     sent: &[&[u8]],
 ) -> Result<TcpStream, Fail> {
     let Some(address) = port.local_addr() else {
