@@ -32,7 +32,7 @@ fn made_desk(alloc: Global) -> Result<Desk<MemoryDisk, ListClock>, Fail> {
 }
 
 // A connection to a port of this machine, by which these bytes were sent and no more will be.
-fn connected<N: Net<Listener = TcpListener, Stream = TcpStream>, B: Binder>(
+fn connected<N: Net<Listener = TcpListener, Stream = TcpStream>, B: Binder + Drop>(
     net: &N,
     port: &TcpPort<B>,
     sent: &[&[u8]],
