@@ -1,5 +1,5 @@
 -- What reading a disk alone leaves of it.
-use Rattle.std.proofs.Common.{◌≡◌, ap, refl, sym, subst}
+use Rattle.std.proofs.Common.{ap, refl, sym, subst}
 use Rattle.std.specs.Prelude.{IsTrue}
 use Rattle.disk_core.specs.declared.disk.Disk as disks
 use Rattle.disk_core.specs.Fronts.{Narrower}
