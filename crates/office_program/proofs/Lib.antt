@@ -1,3 +1,4 @@
+mod Carried
 pub mod Done
 pub mod Owning
 pub mod Soundness

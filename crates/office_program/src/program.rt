@@ -22,6 +22,7 @@ ghost use Rattle.office_commands.specs.Reporting.{Reports};
 ghost use Rattle.office_commands.specs.Running.{around, IsNoted, IsSilent, Runs};
 ghost use Rattle.office_program.specs.Workers.{Connects, IsBalanced, ServesPort};
 
+use crate::carrying::{carry_out, sound_now};
 use crate::serve::serve;
 use bill_book::BillKeeper;
 use command_line::{CommandLine, LineFault, read_line};
@@ -29,22 +30,11 @@ use desk_core::Clock;
 use disk_core::Disk;
 use http_front::{Replies, SessionEnd};
 use http_wire::Source;
-use office_commands::{
-    End, MEMORY, USAGE, bill, end_line, foretell, init, load, note_line, report, run, stays, usage,
-};
+use office_commands::{End, MEMORY, USAGE, end_line, note_line, usage};
 use serving::{Gate, Port};
 use std::alloc::Global;
 use std::sync::Wait;
 use std::thread::Threads;
-
-// States of a disk each of whose images has a history that what it reads has one, and that it has such images as
-// long as it is left alone. It does nothing.
-fn sound_now<D: Disk>(disk: &D)
-    ensures reads { IsTrue D.honest → IsSound (D.state disk.now) → (history : List Entry)
-        × HasAcceptedHistory history (D.state disk.now).journal.seen }
-    ensures still { IsTrue D.honest → IsSound (D.state disk.now)
-        → KeepsTo D.Disk disk.now disk.now IsSound }
-{}
 
 // Notes that words are no command line, or that memory ran out before they were read, and answers the status.
 fn refuse_line<W: Replies>(out: &mut W, fault: LineFault) -> u8
@@ -101,7 +91,7 @@ pub fn office<S, W, D, C, P, G, K, R>(
     words: &[String],
     input: &mut S,
     out: &mut W,
-    mut disk: D,
+    disk: D,
     clock: C,
     port: &mut P,
     gate: &G,
@@ -207,45 +197,25 @@ where
 {
     sound_now(&disk);
     match read_line(alloc, words) {
-        Ok(CommandLine::Init) => {
-            let status = init(out, &mut disk);
-            End {
-                status,
-                disk,
-                clock,
-            }
-        }
-        Ok(CommandLine::Run) => run(alloc, input, out, disk, clock),
-        Ok(
+        Ok(command) => match command {
             CommandLine::Serve {
                 listen,
                 workers,
                 connections,
-            },
-        ) => serve(
-            rt,
-            alloc,
-            out,
-            disk,
-            clock,
-            port,
-            listen.as_str(),
-            gate,
-            workers,
-            connections,
-        ),
-        Ok(CommandLine::Report(asked)) => report(alloc, out, disk, clock, &asked),
-        Ok(CommandLine::Explain { workers }) => stays(rt, alloc, out, disk, clock, workers),
-        Ok(CommandLine::Bill(asked)) => bill(alloc, out, keeper, disk, clock, &asked),
-        Ok(CommandLine::Forecast(asked)) => foretell(alloc, input, out, disk, clock, &asked),
-        Ok(CommandLine::Gen { number, count }) => {
-            let status = load(alloc, out, number, count);
-            End {
-                status,
+            } => serve(
+                rt,
+                alloc,
+                out,
                 disk,
                 clock,
-            }
-        }
+                port,
+                listen.as_str(),
+                gate,
+                workers,
+                connections,
+            ),
+            other => carry_out(rt, alloc, &other, input, out, disk, clock, keeper),
+        },
         Err(fault) => {
             let status = refuse_line(out, fault);
             End {

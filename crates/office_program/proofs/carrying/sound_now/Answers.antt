@@ -2,7 +2,7 @@ use Rattle.disk_core.proofs.Laws.{laws_of}
 use Rattle.disk_core.proofs.Time.{started}
 use Rattle.desk_core.specs.Histories.{IsSound}
 use Rattle.desk_core.proofs.Rereading.{sound_reads}
-use Rattle.office_program.proofs.program.sound_now.Goals as goal
+use Rattle.office_program.proofs.carrying.sound_now.Goals as goal
 
 pub returns-clause-reads : goal.returns-clause-reads
 returns-clause-reads g c tells sound = sound_reads (laws_of g.met.D.Disk) c.args.disk.now tells sound
