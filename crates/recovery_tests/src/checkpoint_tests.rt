@@ -1,0 +1,363 @@
+// Checkpoints: what the end of a session saves, and what is opened from it.
+use crate::sessions::{Ended, FINISHED, Heard, Turn, Wish, session};
+use checkpoint::load;
+use desk_core::SaveFault;
+use disk_core::{Disk, FileNo, MemoryDisk};
+use meter_journal::OpenFault;
+use std::alloc::Global;
+use std::collections::BTreeSet;
+use std::process::Abort;
+use std::test::Fail;
+
+const EMPTY: &[u8] = &[
+    0xA5, 0x4D, 0x45, 0x54, 0x45, 0x52, 0x4A, 0x52, 0x4E, 0x31, 0,
+];
+
+// The bucket logs, made at 2024-01-01 00:00 UTC.
+const LOGS: &[u8] = &[
+    0xA5, 0x4D, 0x45, 0x54, 0x45, 0x52, 0x4A, 0x52, 0x4E, 0x31, 0xA5, 0, 0, 0, 15, 0, 0, 0x01,
+    0x8C, 0xC2, 0x51, 0xF4, 0x00, 0x01, 0, 4, 0x6C, 0x6F, 0x67, 0x73, 0,
+];
+
+// The same, with another first byte of the entry's moment, which is then past the end of time.
+const DAMAGED: &[u8] = &[
+    0xA5, 0x4D, 0x45, 0x54, 0x45, 0x52, 0x4A, 0x52, 0x4E, 0x31, 0xA5, 0, 0, 0, 15, 0x37, 0, 0x01,
+    0x8C, 0xC2, 0x51, 0xF4, 0x00, 0x01, 0, 4, 0x6C, 0x6F, 0x67, 0x73, 0,
+];
+
+// The buckets logs and data, both made at 2024-01-01 00:00 UTC.
+const BOTH: &[u8] = &[
+    0xA5, 0x4D, 0x45, 0x54, 0x45, 0x52, 0x4A, 0x52, 0x4E, 0x31, 0xA5, 0, 0, 0, 15, 0, 0, 0x01,
+    0x8C, 0xC2, 0x51, 0xF4, 0x00, 0x01, 0, 4, 0x6C, 0x6F, 0x67, 0x73, 0xA5, 0, 0, 0, 15, 0, 0,
+    0x01, 0x8C, 0xC2, 0x51, 0xF4, 0x00, 0x01, 0, 4, 0x64, 0x61, 0x74, 0x61, 0,
+];
+
+const MAKE_LOGS: Turn = (Wish::Make("logs"), Ok((Heard::Made, 30)), false);
+
+const SHOW_LOGS: Turn = (Wish::Show("logs"), Ok((Heard::Empty, 30)), false);
+
+const MAKE_DATA: Turn = (Wish::Make("data"), Ok((Heard::Made, 50)), false);
+
+const MAKE_REST: Turn = (Wish::Make("rest"), Ok((Heard::Made, 70)), false);
+
+// The calls of the disk until the first bucket is acknowledged, from the write of the journal file to the sync of the
+// gate behind its entry.
+const ACKNOWLEDGED: u64 = 13;
+
+// The end of that session takes fewer calls.
+const LONGEST_END: u64 = 15;
+
+const LAST: u64 = ACKNOWLEDGED + LONGEST_END + 1;
+
+const UNSAVED: Ended = Ended::Finished(Err(SaveFault::StoreFault));
+
+// A disk with these files, of which the calls with these numbers fail.
+fn disk_with(
+    alloc: Global,
+    journal: &[u8],
+    first: &[u8],
+    second: &[u8],
+    failing: &[u64],
+) -> Result<MemoryDisk, Fail> {
+    let mut disk = MemoryDisk::new(alloc, failing.to_vec(alloc)?);
+    disk.write_at(FileNo::Journal, 0, journal)?;
+    if !first.is_empty() {
+        disk.write_at(FileNo::Slot0, 0, first)?;
+    }
+    if !second.is_empty() {
+        disk.write_at(FileNo::Slot1, 0, second)?;
+    }
+    Ok(disk)
+}
+
+// A journal without entries, and no slots.
+fn new_disk(alloc: Global, failing: &[u64]) -> Result<MemoryDisk, Fail> {
+    disk_with(alloc, EMPTY, &[], &[], failing)
+}
+
+// The gate and the position of a slot; `None` if its file is too short for them.
+type Head = Option<(u8, u64)>;
+
+fn head_of(disk: &mut MemoryDisk, file: FileNo) -> Result<Head, Fail> {
+    if disk.length(file)? < 9 {
+        return Ok(None);
+    }
+    let mut gate = [0];
+    let mut position = [0; 8];
+    disk.read_at(file, 0, &mut gate)?;
+    disk.read_at(file, 1, &mut position)?;
+    Ok(Some((gate[0], u64::from_be_bytes(position))))
+}
+
+// The number of buckets, and the position, of the checkpoint that is loaded.
+type Loaded = Result<Option<(usize, u64)>, SaveFault>;
+
+fn loaded(alloc: Global, disk: &mut MemoryDisk) -> Loaded {
+    match load(alloc, disk) {
+        Ok(Some((snapshot, position))) => Ok(Some((snapshot.buckets.len(), position))),
+        Ok(None) => Ok(None),
+        Err(fault) => Err(fault),
+    }
+}
+
+// The turns of a session, the heads of both slots after it, and what is loaded then.
+const SESSIONS: &[(&[Turn], Head, Head, Loaded)] = &[
+    (&[], None, None, Ok(None)),
+    (&[MAKE_LOGS], Some((0xA7, 30)), None, Ok(Some((1, 30)))),
+    // A session that accepts no command leaves the slots.
+    (&[SHOW_LOGS], Some((0xA7, 30)), None, Ok(Some((1, 30)))),
+    // The next ones go into the slot that is not loaded, at the end of the journal then.
+    (
+        &[MAKE_DATA],
+        Some((0xA7, 30)),
+        Some((0xA7, 50)),
+        Ok(Some((2, 50))),
+    ),
+    (
+        &[MAKE_REST],
+        Some((0xA7, 70)),
+        Some((0xA7, 50)),
+        Ok(Some((3, 70))),
+    ),
+];
+
+#[test]
+fn the_end_of_a_session_saves_a_checkpoint(rt: HostRuntime) -> Result<(), Fail> {
+    let alloc = rt.alloc();
+    let mut disk = new_disk(alloc, &[])?;
+    for (turns, first, second, checkpoint) in SESSIONS {
+        let (left, ended) = session(&rt, alloc, disk, &[*turns])?;
+        disk = left;
+        assert_eq!(rt; ended, FINISHED, "{turns:?}");
+        let heads = (
+            head_of(&mut disk, FileNo::Slot0)?,
+            head_of(&mut disk, FileNo::Slot1)?,
+        );
+        assert_eq!(rt; heads, (*first, *second), "{turns:?}");
+        assert_eq!(rt; loaded(alloc, &mut disk), *checkpoint, "{turns:?}");
+    }
+    Ok(())
+}
+
+// How the end of a session goes whose disk fails at the calls with these numbers. The office is opened again until they
+// are past, and has the bucket each time. Then the next session saves what this one may not have saved.
+fn end_of(rt: &impl Abort, alloc: Global, failing: &[u64]) -> Result<Ended, Fail> {
+    let (mut disk, end) = session(rt, alloc, new_disk(alloc, failing)?, &[&[MAKE_LOGS]])?;
+    for _ in 0..LONGEST_END {
+        let (left, ended) = session(rt, alloc, disk, &[&[SHOW_LOGS]])?;
+        disk = left;
+        let refused = Ended::Unopened(OpenFault::StoreFault);
+        assert!(rt; ended == FINISHED || ended == refused, "{failing:?}");
+    }
+    let (mut disk, ended) = session(rt, alloc, disk, &[&[SHOW_LOGS, MAKE_DATA]])?;
+    assert_eq!(rt; ended, FINISHED, "{failing:?}");
+    assert_eq!(rt; loaded(alloc, &mut disk), Ok(Some((2, 50))), "{failing:?}");
+    Ok(end)
+}
+
+// Whether the end fails where this call does, and the same where a later one fails too, or all of them.
+fn end_fails(rt: &impl Abort, alloc: Global, number: u64) -> Result<bool, Fail> {
+    let end = end_of(rt, alloc, &[number])?;
+    assert!(rt; end == FINISHED || end == UNSAVED, "{end:?}");
+    let mut rest = Vec::new(alloc);
+    for other in number..LAST {
+        let pair = end_of(rt, alloc, &[number, other])?;
+        assert_eq!(rt; pair, end, "calls {number} and {other}");
+        rest.push(other)?;
+    }
+    let all = end_of(rt, alloc, &rest)?;
+    assert_eq!(rt; all, end, "from call {number} on");
+    Ok(end == UNSAVED)
+}
+
+// A save in a new slot makes five writes and five syncs.
+#[test]
+fn an_end_whose_disk_fails_loses_nothing(rt: HostRuntime) -> Result<(), Fail> {
+    let mut failed = 0u64;
+    for number in ACKNOWLEDGED + 1..LAST {
+        if end_fails(&rt, rt.alloc(), number)? {
+            failed = failed.saturating_add(1);
+        }
+    }
+    assert!(rt; failed >= 10 && failed < LONGEST_END, "{failed} calls");
+    Ok(())
+}
+
+// The calls of the disk that fail, counted from 1, and what is loaded where there are no slots: the lengths of two
+// files are read.
+const LOADS: &[(&[u64], Loaded)] = &[
+    (&[1], Err(SaveFault::StoreFault)),
+    (&[2], Err(SaveFault::StoreFault)),
+    (&[3], Ok(None)),
+];
+
+#[test]
+fn a_load_fails_where_its_disk_does(rt: HostRuntime) -> Result<(), Fail> {
+    let alloc = rt.alloc();
+    for (failing, checkpoint) in LOADS {
+        let mut disk = MemoryDisk::new(alloc, failing.to_vec(alloc)?);
+        assert_eq!(rt; loaded(alloc, &mut disk), *checkpoint, "{failing:?}");
+    }
+    Ok(())
+}
+
+// The gate of the slot that a session left, the bytes of the journal file, what is loaded, and how a session ends then.
+type Opening = (u8, &'static [u8], Loaded, Ended);
+
+const FROM_SLOT: Loaded = Ok(Some((1, 30)));
+
+const OPENINGS: &[Opening] = &[
+    (0xA7, LOGS, FROM_SLOT, FINISHED),
+    // Any other gate is closed, and the journal is replayed to the same office.
+    (0x00, LOGS, Ok(None), FINISHED),
+    (0x37, LOGS, Ok(None), FINISHED),
+    (0xA5, LOGS, Ok(None), FINISHED),
+    (0xA6, LOGS, Ok(None), FINISHED),
+    // Damage before the position is found where the whole journal is read.
+    (0xA7, DAMAGED, FROM_SLOT, FINISHED),
+    (
+        0x37,
+        DAMAGED,
+        Ok(None),
+        Ended::Unopened(OpenFault::Damaged { offset: 10 }),
+    ),
+];
+
+#[test]
+fn an_office_is_opened_from_an_open_slot_alone(rt: HostRuntime) -> Result<(), Fail> {
+    let alloc = rt.alloc();
+    for (gate, journal, checkpoint, how) in OPENINGS {
+        let (mut disk, _) = session(&rt, alloc, new_disk(alloc, &[])?, &[&[MAKE_LOGS]])?;
+        disk.write_at(FileNo::Slot0, 0, &[*gate])?;
+        disk.write_at(FileNo::Journal, 0, *journal)?;
+        assert_eq!(rt; loaded(alloc, &mut disk), *checkpoint, "gate {gate}");
+        let (_, ended) = session(&rt, alloc, disk, &[&[SHOW_LOGS, MAKE_DATA]])?;
+        assert_eq!(rt; ended, *how, "gate {gate}");
+    }
+    Ok(())
+}
+
+// Sessions, of which the last saves a checkpoint; the disk's calls from the one that acknowledges its command to its
+// last one; the bytes of the journal file then; what is asked of each image; and what is loaded from it: the checkpoint
+// that was there before, or the new one.
+#[derive(Clone, Copy, Debug)]
+struct Save {
+    sessions: &'static [&'static [Turn]],
+    calls: (u64, u64),
+    journal: &'static [u8],
+    asked: &'static [Turn],
+    before: Loaded,
+    new: Loaded,
+}
+
+const SAVES: &[Save] = &[
+    Save {
+        sessions: &[&[MAKE_LOGS]],
+        calls: (ACKNOWLEDGED, ACKNOWLEDGED + 13),
+        journal: LOGS,
+        asked: &[SHOW_LOGS],
+        before: Ok(None),
+        new: FROM_SLOT,
+    },
+    Save {
+        sessions: &[&[MAKE_LOGS], &[MAKE_DATA]],
+        // The opening reads the first slot, in 8 calls, and the save reads it once more.
+        calls: (ACKNOWLEDGED + 27, ACKNOWLEDGED + 42),
+        journal: BOTH,
+        asked: &[
+            (Wish::Show("logs"), Ok((Heard::Empty, 50)), false),
+            (Wish::Show("data"), Ok((Heard::Empty, 50)), false),
+        ],
+        before: FROM_SLOT,
+        new: Ok(Some((2, 50))),
+    },
+];
+
+// The images of a slot after this many calls, each once.
+fn slot_images(
+    alloc: Global,
+    disk: &MemoryDisk,
+    slot: FileNo,
+    after: u64,
+) -> Result<BTreeSet<Vec<u8>>, Fail> {
+    let mut distinct = BTreeSet::new(alloc);
+    for image in disk.images(slot, after)? {
+        distinct.insert(image)?;
+    }
+    Ok(distinct)
+}
+
+// Opens the journal beside these images of the slots. Returns whether the new checkpoint is the one that is loaded.
+fn opens_anew(
+    rt: &impl Abort,
+    alloc: Global,
+    save: &Save,
+    first: &[u8],
+    second: &[u8],
+) -> Result<bool, Fail> {
+    let mut disk = disk_with(alloc, save.journal, first, second, &[])?;
+    let found = loaded(alloc, &mut disk);
+    assert!(rt; found == save.before || found == save.new, "{found:?}");
+    let (_, ended) = session(rt, alloc, disk, &[save.asked])?;
+    assert_eq!(rt; ended, FINISHED);
+    Ok(found == save.new)
+}
+
+// Opens the journal beside each pair of images of the slots after this many calls. Returns from how many the checkpoint
+// of before is loaded, and from how many the new one.
+fn stop(
+    rt: &impl Abort,
+    alloc: Global,
+    save: &Save,
+    disk: &MemoryDisk,
+    after: u64,
+) -> Result<(u64, u64), Fail> {
+    for image in &disk.images(FileNo::Journal, after)? {
+        assert!(rt; image.as_slice() == save.journal, "after {after} calls");
+    }
+    let seconds = slot_images(alloc, disk, FileNo::Slot1, after)?;
+    let mut before = 0u64;
+    let mut new = 0u64;
+    for first in &slot_images(alloc, disk, FileNo::Slot0, after)? {
+        for second in &seconds {
+            if opens_anew(rt, alloc, save, first.as_slice(), second.as_slice())? {
+                new = new.saturating_add(1);
+            } else {
+                before = before.saturating_add(1);
+            }
+        }
+    }
+    Ok((before, new))
+}
+
+// The disk after these sessions.
+fn disk_after(rt: &impl Abort, alloc: Global, sessions: &[&[Turn]]) -> Result<MemoryDisk, Fail> {
+    let mut disk = new_disk(alloc, &[])?;
+    for turns in sessions {
+        let (left, ended) = session(rt, alloc, disk, &[*turns])?;
+        disk = left;
+        assert_eq!(rt; ended, FINISHED, "{turns:?}");
+    }
+    Ok(disk)
+}
+
+// Up to the sync of the body a stop loses the new checkpoint, after the last sync none does. The body has 71 bytes and
+// more; while it is written, its images are cut or filled anywhere.
+#[test]
+fn each_image_of_a_stopped_end_opens(rt: HostRuntime) -> Result<(), Fail> {
+    let alloc = rt.alloc();
+    for save in SAVES {
+        let disk = disk_after(&rt, alloc, save.sessions)?;
+        let (first, last) = save.calls;
+        let mut all = 0u64;
+        for after in first..last {
+            let (before, _) = stop(&rt, alloc, save, &disk, after)?;
+            assert!(rt; before > 0, "after {after} calls");
+            all = all.saturating_add(before);
+        }
+        assert!(rt; all > 100, "{all} pairs");
+        assert_eq!(rt; stop(&rt, alloc, save, &disk, last)?, (0, 1));
+        assert_eq!(rt; stop(&rt, alloc, save, &disk, first)?, (1, 0));
+    }
+    Ok(())
+}

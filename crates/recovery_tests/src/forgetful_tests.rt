@@ -1,0 +1,347 @@
+// Journals that were lost: what a desk finds of one whose disk did not keep what it synced.
+use crate::parts::{CLOSED, DATA, LENGTH, LOGS, MAKE, MARK, MOMENT, OPEN, joined};
+use crate::sessions::{Ended, FINISHED, Heard, J0, Said, Turn, Wish, session};
+use desk_core::DeskFault;
+use disk_core::{ForgetfulDisk, Loss};
+use meter_journal::{OpenFault, create, read_all};
+use std::alloc::Global;
+use std::process::Abort;
+use std::test::Fail;
+
+// What a sync that fails loses: the bytes from a place on, or those that others stand in place of.
+#[derive(Clone, Copy, Debug)]
+enum Lost {
+    Cut(u64),
+    Over(u64, &'static [u8]),
+}
+
+// A journal of which a sync fails. Syncs are counted from 1: five make the file, one opens it, and of the two of each
+// command the first is that of its frame, whose gate is still closed, and the second that of the gate.
+#[derive(Clone, Copy, Debug)]
+struct Row {
+    failing: u64,
+    lost: Lost,
+    // Up to the command that fails.
+    turns: &'static [Turn],
+    // The next ones.
+    then: &'static [Turn],
+    // How a later session ends.
+    again: Ended,
+    // What the journal file holds from the fault on.
+    left: &'static [&'static [u8]],
+}
+
+const MADE: Turn = (Wish::Make("logs"), Ok((Heard::Made, 30)), false);
+
+const FAULT: Said = Err(DeskFault::StoreFault {
+    told: Some(J0),
+    faults: 1,
+});
+
+// The first command fails, or the second one.
+const FIRST: &[Turn] = &[(Wish::Make("logs"), FAULT, true)];
+
+const SECOND: &[Turn] = &[MADE, (Wish::Make("data"), FAULT, true)];
+
+// The journal is opened again in each of two calls.
+const NOT_MADE: &[Turn] = &[
+    (
+        Wish::Make("rest"),
+        Err(DeskFault::Broken(OpenFault::NotMade)),
+        true,
+    ),
+    (
+        Wish::Show("logs"),
+        Err(DeskFault::Broken(OpenFault::NotMade)),
+        true,
+    ),
+];
+
+const FOREIGN: &[Turn] = &[
+    (
+        Wish::Make("rest"),
+        Err(DeskFault::Broken(OpenFault::Foreign)),
+        true,
+    ),
+    (
+        Wish::Show("logs"),
+        Err(DeskFault::Broken(OpenFault::Foreign)),
+        true,
+    ),
+];
+
+const AT_LOGS: OpenFault = OpenFault::Damaged { offset: 10 };
+
+const LOGS_DAMAGED: &[Turn] = &[
+    (Wish::Make("rest"), Err(DeskFault::Broken(AT_LOGS)), true),
+    (Wish::Show("logs"), Err(DeskFault::Broken(AT_LOGS)), true),
+];
+
+const AT_DATA: OpenFault = OpenFault::Damaged { offset: 30 };
+
+const DATA_DAMAGED: &[Turn] = &[
+    (Wish::Make("rest"), Err(DeskFault::Broken(AT_DATA)), true),
+    (Wish::Show("logs"), Err(DeskFault::Broken(AT_DATA)), true),
+];
+
+// A shorter history: that without a bucket, whose end gate is at 10, or with the bucket logs alone.
+const NO_LOGS: &[Turn] = &[(Wish::Show("logs"), Ok((Heard::Missing, 10)), false)];
+
+const LOGS_ALONE: &[Turn] = &[
+    (Wish::Show("logs"), Ok((Heard::Empty, 30)), false),
+    (Wish::Show("data"), Ok((Heard::Missing, 30)), false),
+];
+
+const ROWS: &[Row] = &[
+    // Fewer than 11 bytes.
+    Row {
+        failing: 7,
+        lost: Lost::Cut(0),
+        turns: FIRST,
+        then: NOT_MADE,
+        again: Ended::Unopened(OpenFault::NotMade),
+        left: &[],
+    },
+    Row {
+        failing: 7,
+        lost: Lost::Cut(10),
+        turns: FIRST,
+        then: NOT_MADE,
+        again: Ended::Unopened(OpenFault::NotMade),
+        left: &[OPEN, MARK],
+    },
+    // More than 11 bytes, and no open gate before the mark; or another mark.
+    Row {
+        failing: 7,
+        lost: Lost::Over(0, CLOSED),
+        turns: FIRST,
+        then: FOREIGN,
+        again: Ended::Unopened(OpenFault::Foreign),
+        left: &[CLOSED, MARK, CLOSED, LENGTH, MOMENT, MAKE, LOGS, CLOSED],
+    },
+    Row {
+        failing: 8,
+        lost: Lost::Over(1, b"METERJRN2"),
+        turns: FIRST,
+        then: FOREIGN,
+        again: Ended::Unopened(OpenFault::Foreign),
+        left: &[OPEN, b"METERJRN2", OPEN, LENGTH, MOMENT, MAKE, LOGS, CLOSED],
+    },
+    // An open gate without a whole frame and a next gate.
+    Row {
+        failing: 8,
+        lost: Lost::Cut(11),
+        turns: FIRST,
+        then: LOGS_DAMAGED,
+        again: Ended::Unopened(AT_LOGS),
+        left: &[OPEN, MARK, OPEN],
+    },
+    Row {
+        failing: 8,
+        lost: Lost::Cut(30),
+        turns: FIRST,
+        then: LOGS_DAMAGED,
+        again: Ended::Unopened(AT_LOGS),
+        left: &[OPEN, MARK, OPEN, LENGTH, MOMENT, MAKE, LOGS],
+    },
+    Row {
+        failing: 8,
+        lost: Lost::Over(11, &[0, 0, 0, 16]),
+        turns: FIRST,
+        then: LOGS_DAMAGED,
+        again: Ended::Unopened(AT_LOGS),
+        left: &[OPEN, MARK, OPEN, &[0, 0, 0, 16], MOMENT, MAKE, LOGS, CLOSED],
+    },
+    Row {
+        failing: 10,
+        lost: Lost::Cut(31),
+        turns: SECOND,
+        then: DATA_DAMAGED,
+        again: Ended::Unopened(AT_DATA),
+        left: &[OPEN, MARK, OPEN, LENGTH, MOMENT, MAKE, LOGS, OPEN],
+    },
+    // Bytes that are no entry: a moment past the end of time, no kind. The second damage is in what was acknowledged.
+    Row {
+        failing: 8,
+        lost: Lost::Over(15, &[0xFF]),
+        turns: FIRST,
+        then: LOGS_DAMAGED,
+        again: Ended::Unopened(AT_LOGS),
+        left: &[
+            OPEN,
+            MARK,
+            OPEN,
+            LENGTH,
+            &[0xFF, 0, 0x01, 0x8C, 0xC2, 0x51, 0xF4, 0x00],
+            MAKE,
+            LOGS,
+            CLOSED,
+        ],
+    },
+    Row {
+        failing: 9,
+        lost: Lost::Over(23, &[0]),
+        turns: SECOND,
+        then: LOGS_DAMAGED,
+        again: Ended::Unopened(AT_LOGS),
+        left: &[
+            OPEN,
+            MARK,
+            OPEN,
+            LENGTH,
+            MOMENT,
+            &[0],
+            LOGS,
+            CLOSED,
+            LENGTH,
+            MOMENT,
+            MAKE,
+            DATA,
+            CLOSED,
+        ],
+    },
+    Row {
+        failing: 10,
+        lost: Lost::Over(43, &[0]),
+        turns: SECOND,
+        then: DATA_DAMAGED,
+        again: Ended::Unopened(AT_DATA),
+        left: &[
+            OPEN,
+            MARK,
+            OPEN,
+            LENGTH,
+            MOMENT,
+            MAKE,
+            LOGS,
+            OPEN,
+            LENGTH,
+            MOMENT,
+            &[0],
+            DATA,
+            CLOSED,
+        ],
+    },
+    // An entry whose moment is before that of the entry before, and one that the office does not accept there.
+    Row {
+        failing: 10,
+        lost: Lost::Over(41, &[0xF3]),
+        turns: SECOND,
+        then: DATA_DAMAGED,
+        again: Ended::Unopened(AT_DATA),
+        left: &[
+            OPEN,
+            MARK,
+            OPEN,
+            LENGTH,
+            MOMENT,
+            MAKE,
+            LOGS,
+            OPEN,
+            LENGTH,
+            &[0, 0, 0x01, 0x8C, 0xC2, 0x51, 0xF3, 0x00],
+            MAKE,
+            DATA,
+            CLOSED,
+        ],
+    },
+    Row {
+        failing: 10,
+        lost: Lost::Over(44, LOGS),
+        turns: SECOND,
+        then: DATA_DAMAGED,
+        again: Ended::Unopened(AT_DATA),
+        left: &[
+            OPEN, MARK, OPEN, LENGTH, MOMENT, MAKE, LOGS, OPEN, LENGTH, MOMENT, MAKE, LOGS, CLOSED,
+        ],
+    },
+    // A whole journal with a shorter history, also one without the bucket that was acknowledged.
+    Row {
+        failing: 7,
+        lost: Lost::Cut(11),
+        turns: FIRST,
+        then: NO_LOGS,
+        again: FINISHED,
+        left: &[OPEN, MARK, CLOSED],
+    },
+    Row {
+        failing: 9,
+        lost: Lost::Cut(31),
+        turns: SECOND,
+        then: LOGS_ALONE,
+        again: FINISHED,
+        left: &[OPEN, MARK, OPEN, LENGTH, MOMENT, MAKE, LOGS, CLOSED],
+    },
+    Row {
+        failing: 10,
+        lost: Lost::Over(30, CLOSED),
+        turns: SECOND,
+        then: LOGS_ALONE,
+        again: FINISHED,
+        left: &[
+            OPEN, MARK, OPEN, LENGTH, MOMENT, MAKE, LOGS, CLOSED, LENGTH, MOMENT, MAKE, DATA,
+            CLOSED,
+        ],
+    },
+    Row {
+        failing: 10,
+        lost: Lost::Over(10, CLOSED),
+        turns: SECOND,
+        then: NO_LOGS,
+        again: FINISHED,
+        left: &[
+            OPEN, MARK, CLOSED, LENGTH, MOMENT, MAKE, LOGS, OPEN, LENGTH, MOMENT, MAKE, DATA,
+            CLOSED,
+        ],
+    },
+];
+
+// A disk whose journal is made, and has no entries.
+fn disk_of(alloc: Global, row: &Row) -> Result<ForgetfulDisk, Fail> {
+    let loss = match row.lost {
+        Lost::Cut(to) => Loss::Cut { to },
+        Lost::Over(at, bytes) => Loss::Over {
+            at,
+            bytes: bytes.to_vec(alloc)?,
+        },
+    };
+    let mut disk = ForgetfulDisk::new(alloc, row.failing, loss);
+    create(&mut disk)?;
+    Ok(disk)
+}
+
+fn assert_left(
+    rt: &impl Abort,
+    alloc: Global,
+    disk: &mut ForgetfulDisk,
+    row: &Row,
+) -> Result<(), Fail> {
+    let left = joined(alloc, row.left)?;
+    let found = read_all(alloc, disk)?;
+    assert!(rt;
+        found.as_slice() == left.as_slice(),
+        "sync {}, {:?}",
+        row.failing,
+        row.lost
+    );
+    Ok(())
+}
+
+// A session over these turns, and then over the file that it leaves.
+fn assert_row(rt: &impl Abort, alloc: Global, row: &Row, lists: &[&[Turn]]) -> Result<(), Fail> {
+    let (mut disk, ended) = session(rt, alloc, disk_of(alloc, row)?, lists)?;
+    assert_eq!(rt; ended, FINISHED, "sync {}, {:?}", row.failing, row.lost);
+    assert_left(rt, alloc, &mut disk, row)?;
+    let (mut disk, ended) = session(rt, alloc, disk, &[row.then])?;
+    assert_eq!(rt; ended, row.again, "sync {}, {:?}", row.failing, row.lost);
+    assert_left(rt, alloc, &mut disk, row)
+}
+
+#[test]
+fn a_journal_that_was_lost_is_told_and_left_as_it_is(rt: HostRuntime) -> Result<(), Fail> {
+    for row in ROWS {
+        assert_row(&rt, rt.alloc(), row, &[row.turns])?;
+        assert_row(&rt, rt.alloc(), row, &[row.turns, row.then])?;
+    }
+    Ok(())
+}

@@ -1,0 +1,13 @@
+//! Tests of what an office is opened from: checkpoints that the end of a session saved, and journals that are damaged.
+#![tactic(auto)]
+
+#[cfg(test)]
+mod checkpoint_tests;
+#[cfg(test)]
+mod damage_tests;
+#[cfg(test)]
+mod forgetful_tests;
+#[cfg(test)]
+mod parts;
+#[cfg(test)]
+mod sessions;
