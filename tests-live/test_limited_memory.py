@@ -102,15 +102,18 @@ class Limited(live.Case):
         self.check("with enough", (0, b"", 100_000), (status, notes, json.loads(said.rpartition(b"\r\n\r\n")[2])["versions"]))
 
     def test_a_request(self):
-        """A body of 1 MiB under limits from the least one on, by 512 KiB: 500 until it fits, and the server goes on after each."""
+        """A body of 1 MiB under limits from the least one that does for a small put, by 512 KiB: 500 until it fits, and the server goes on."""
         self.new_folder("served")
         self.office("run", sent=request("PUT", "/buckets/load"), folder=self.folder / "served")
 
         def works(limit):
-            server, _ = self.start(limit, 1)
-            if server:
-                self.stop(server)
-            return bool(server)
+            """Whether a server begins and does a small put."""
+            server, port = self.start(limit, 1)
+            if not server:
+                return False
+            status = self.ask(port, put_object("small"))[0]
+            self.stop(server)
+            return status == 201
         least, found = self.least(works), []
         for step in range(40):
             server, port = self.start(least + step * MIB // 2, 1)
