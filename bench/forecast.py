@@ -5,9 +5,13 @@ Over a journal in a new folder below FOLDER (/dev/shm) with a bucket of 10,000 a
 a configuration that moves each object to GLACIER and removes it, and of one that removes it alone. Prints for each how many actions it
 printed, the median of the rounds in seconds, and the same per action in microseconds; the time of a run without requests, which opens the
 same journal, is taken off.
+
+Then what the copy of the office costs: a forecast in which nothing comes due beside a report of a month, both with their opening, in seconds
+(medians) and in the greatest memory of each in MiB.
 """
 import datetime
 import json
+import os
 import statistics
 import subprocess
 import sys
@@ -44,6 +48,25 @@ def forecast(program, folder, actions, rounds):
     return statistics.median(taken), printed.pop()
 
 
+def peak(command, folder, sent):
+    """Seconds of a command, and its greatest memory in MiB."""
+    started = time.monotonic()
+    child = subprocess.Popen(command, cwd=folder, stdin=subprocess.PIPE, stdout=subprocess.DEVNULL, stderr=subprocess.DEVNULL)
+    child.stdin.write(sent)
+    child.stdin.close()
+    _, _, used = os.wait4(child.pid, 0)
+    return time.monotonic() - started, used.ru_maxrss / 1024
+
+
+def copy(program, folder, rounds):
+    """Medians of a report and of a forecast without actions: seconds, and MiB."""
+    today, month = datetime.date.today() + datetime.timedelta(days=1), datetime.date.today().strftime("%Y-%m")
+    kept = configuration({"Expiration": {"Days": 365 * 70}})
+    reports = [peak([program, "report", month], folder, b"") for _ in range(rounds)]
+    forecasts = [peak([program, "forecast", "logs", today.isoformat()], folder, kept) for _ in range(rounds)]
+    return [tuple(map(statistics.median, zip(*it))) for it in (reports, forecasts)]
+
+
 def main(program, rounds, below):
     for count in (10_000, 200_000):
         with tempfile.TemporaryDirectory(dir=below) as folder:
@@ -52,6 +75,8 @@ def main(program, rounds, below):
             for name, actions in (("remove", REMOVE), ("move_and_remove", MOVE_AND_REMOVE)):
                 took, printed = forecast(program, folder, actions, rounds)
                 print(f"objects {count} {name} actions {printed} seconds {took:.2f} us_an_action {took / max(printed, 1) * 1e6:.1f}")
+            for name, (took, memory) in zip(("report", "forecast_without_actions"), copy(program, folder, rounds)):
+                print(f"objects {count} {name} seconds {took:.2f} MiB {memory:.0f}")
 
 
 if __name__ == "__main__":
