@@ -27,10 +27,18 @@ IsWritten file old new = (n : ℕ) × Rose old.writes n × (new ≡ record (mark
 abbrev pub IsSynced : FileNo → Tally → Tally → Type 0
 IsSynced file old new = (n : ℕ) × Rose old.syncs n × (new ≡ record (marked file false old) { syncs = n })
 
--- Two syncs or more were done, and no write or cut of the journal came after the last; of the slots, none that was not
--- to be synced before.
-pub record IsDurable (old new : Tally) : Type 0 where
-  pub syncs : min (old.syncs + 2) (2 ^ 64 - 1) ≤ new.syncs
+-- n syncs or more were done
+abbrev pub SyncedTimes : ℕ → Tally → Tally → Type 0
+SyncedTimes n old new = min (old.syncs + n) (2 ^ 64 - 1) ≤ new.syncs
+
+-- n syncs or more were done, and no write or cut of the journal came after the last. Whether a slot is to be synced is
+-- as before.
+pub record EndsSynced (n : ℕ) (old new : Tally) : Type 0 where
+  pub syncs : SyncedTimes n old new
   pub journal : new.journal ≡ false
   pub slot0 : new.slot0 ≡ old.slot0
   pub slot1 : new.slot1 ≡ old.slot1
+
+-- the two syncs of an entry were done, the second after its last write
+abbrev pub IsDurable : Tally → Tally → Type 0
+IsDurable old new = EndsSynced 2 old new

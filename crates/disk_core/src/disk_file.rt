@@ -1,6 +1,6 @@
-// One file of a disk, whose calls may be told.
+// One file of a disk, which may report its calls.
 ghost use Rattle.std.specs.Prelude.{◌≡◌, ℕ, length, List, None, Option};
-ghost use Rattle.disk_core.specs.FileCalls.{Made, Records, is_ok};
+ghost use Rattle.disk_core.specs.FileCalls.{Made, Records, length_told, bytes_given, whether_done};
 ghost use Rattle.disk_core.specs.FileCalls.{asks_length, reads, writes, cuts, syncs};
 
 use std::fs::File;
@@ -9,33 +9,34 @@ use std::os::unix::fs::FileExt;
 
 /// A file that is open for reading and writing.
 ///
-/// Where it tells its calls, each call adds itself and whether it was done.
+/// If it reports its calls, each call adds itself and its answer.
 pub trait DiskFile {
-    /// The calls that were made, where they are told.
+    /// The calls that were made with their answers, if the file reports them.
     ghost calls: { Self → Option (List Made) };
 
     /// Tells its length, in bytes.
     fn length(&mut self) -> io::Result<u64>
-        ensures { Records asks_length (is_ok result) (calls self.old) (calls self.new) };
+        ensures { Records asks_length (length_told result) (calls self.old) (calls self.new) };
 
     /// Fills the room with the bytes from an offset on.
     fn read(&mut self, at: u64, room: &mut [u8]) -> io::Result<()>
-        ensures { Records (reads at (length room.old)) (is_ok result) (calls self.old) (calls self.new) };
+        ensures { Records (reads at (length room.old)) (bytes_given room.new result) (calls self.old)
+            (calls self.new) };
 
     /// Writes bytes from an offset on.
     fn write(&mut self, at: u64, bytes: &[u8]) -> io::Result<()>
-        ensures { Records (writes at bytes.now) (is_ok result) (calls self.old) (calls self.new) };
+        ensures { Records (writes at bytes.now) (whether_done result) (calls self.old) (calls self.new) };
 
     /// Cuts it to a length, in bytes.
     fn cut(&mut self, to: u64) -> io::Result<()>
-        ensures { Records (cuts to) (is_ok result) (calls self.old) (calls self.new) };
+        ensures { Records (cuts to) (whether_done result) (calls self.old) (calls self.new) };
 
     /// Makes its bytes and its length durable.
     fn sync(&mut self) -> io::Result<()>
-        ensures { Records syncs (is_ok result) (calls self.old) (calls self.new) };
+        ensures { Records syncs (whether_done result) (calls self.old) (calls self.new) };
 }
 
-/// A file of the operating system does not tell its calls. Its attributes beside the length are not made durable.
+/// A file of the operating system reports no calls. Its attributes beside the length are not made durable.
 impl DiskFile for File {
     ghost calls = { λ _. None };
 

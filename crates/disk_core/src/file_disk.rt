@@ -3,7 +3,8 @@ ghost use Rattle.std.specs.Prelude.{◌≡◌, false, length, refl, OnOk, OnErr}
 ghost use Rattle.office_base.specs.Faults.{HasCause};
 ghost use Rattle.disk_core.specs.Calls.{Elapses};
 ghost use Rattle.disk_core.specs.Tallies.{IsWritten, IsSynced};
-ghost use Rattle.disk_core.specs.FileCalls.{is_ok, asks_length, reads, writes, cuts, syncs};
+ghost use Rattle.disk_core.specs.FileCalls.{ok_of, length_told, bytes_given, whether_done};
+ghost use Rattle.disk_core.specs.FileCalls.{asks_length, reads, writes, cuts, syncs};
 ghost use Rattle.disk_core.specs.Files.{empty_disk};
 ghost use Rattle.disk_core.specs.Untold.{untold_image, untold_bytes, file_faults, file_tally, opened, AsksOne, Asks};
 
@@ -36,7 +37,7 @@ fn not_open() -> io::Error {
 }
 
 fn ask_length<F: DiskFile>(file: &mut Option<F>) -> io::Result<u64>
-    ensures { AsksOne F.DiskFile asks_length (is_ok result) file.old file.new }
+    ensures { AsksOne F.DiskFile asks_length (length_told result) file.old file.new }
 {
     match file {
         Some(file) => file.length(),
@@ -45,7 +46,7 @@ fn ask_length<F: DiskFile>(file: &mut Option<F>) -> io::Result<u64>
 }
 
 fn ask_read<F: DiskFile>(file: &mut Option<F>, at: u64, room: &mut [u8]) -> io::Result<()>
-    ensures { AsksOne F.DiskFile (reads at (length room.old)) (is_ok result) file.old file.new }
+    ensures { AsksOne F.DiskFile (reads at (length room.old)) (bytes_given room.new result) file.old file.new }
 {
     match file {
         Some(file) => file.read(at, room),
@@ -54,7 +55,7 @@ fn ask_read<F: DiskFile>(file: &mut Option<F>, at: u64, room: &mut [u8]) -> io::
 }
 
 fn ask_write<F: DiskFile>(file: &mut Option<F>, at: u64, bytes: &[u8]) -> io::Result<()>
-    ensures { AsksOne F.DiskFile (writes at bytes.now) (is_ok result) file.old file.new }
+    ensures { AsksOne F.DiskFile (writes at bytes.now) (whether_done result) file.old file.new }
 {
     match file {
         Some(file) => file.write(at, bytes),
@@ -63,7 +64,7 @@ fn ask_write<F: DiskFile>(file: &mut Option<F>, at: u64, bytes: &[u8]) -> io::Re
 }
 
 fn ask_cut<F: DiskFile>(file: &mut Option<F>, to: u64) -> io::Result<()>
-    ensures { AsksOne F.DiskFile (cuts to) (is_ok result) file.old file.new }
+    ensures { AsksOne F.DiskFile (cuts to) (whether_done result) file.old file.new }
 {
     match file {
         Some(file) => file.cut(to),
@@ -72,7 +73,7 @@ fn ask_cut<F: DiskFile>(file: &mut Option<F>, to: u64) -> io::Result<()>
 }
 
 fn ask_sync<F: DiskFile>(file: &mut Option<F>) -> io::Result<()>
-    ensures { AsksOne F.DiskFile syncs (is_ok result) file.old file.new }
+    ensures { AsksOne F.DiskFile syncs (whether_done result) file.old file.new }
 {
     match file {
         Some(file) => file.sync(),
@@ -83,7 +84,10 @@ fn ask_sync<F: DiskFile>(file: &mut Option<F>) -> io::Result<()>
 impl<F: DiskFile> FileDisk<F> {
     /// Makes a disk of these files, without a fault so far.
     pub fn new(journal: Option<F>, slot0: Option<F>, slot1: Option<F>) -> Self
-        ensures { file_faults result ≡ 0 }
+        ensures files { opened result ≡ record { journal = journal; slot0 = slot0; slot1 = slot1 } }
+        ensures faults { file_faults result ≡ 0 }
+        ensures tally { file_tally result
+            ≡ record { writes = 0; syncs = 0; journal = false; slot0 = false; slot1 = false } }
     {
         FileDisk {
             journal,
@@ -95,7 +99,7 @@ impl<F: DiskFile> FileDisk<F> {
     }
 
     fn length_of(&mut self, file: FileNo) -> io::Result<u64>
-        ensures asks { Asks F.DiskFile file asks_length (is_ok result) (opened self.old) (opened self.new) }
+        ensures asks { Asks F.DiskFile file asks_length (length_told result) (opened self.old) (opened self.new) }
         ensures faults { self.new.faults ≡ self.old.faults }
         ensures counts { self.new.counts ≡ self.old.counts }
     {
@@ -107,7 +111,7 @@ impl<F: DiskFile> FileDisk<F> {
     }
 
     fn read_of(&mut self, file: FileNo, at: u64, room: &mut [u8]) -> io::Result<()>
-        ensures asks { Asks F.DiskFile file (reads at (length room.old)) (is_ok result) (opened self.old)
+        ensures asks { Asks F.DiskFile file (reads at (length room.old)) (bytes_given room.new result) (opened self.old)
             (opened self.new) }
         ensures faults { self.new.faults ≡ self.old.faults }
         ensures counts { self.new.counts ≡ self.old.counts }
@@ -120,7 +124,7 @@ impl<F: DiskFile> FileDisk<F> {
     }
 
     fn write_of(&mut self, file: FileNo, at: u64, bytes: &[u8]) -> io::Result<()>
-        ensures asks { Asks F.DiskFile file (writes at bytes.now) (is_ok result) (opened self.old)
+        ensures asks { Asks F.DiskFile file (writes at bytes.now) (whether_done result) (opened self.old)
             (opened self.new) }
         ensures faults { self.new.faults ≡ self.old.faults }
         ensures counts { self.new.counts ≡ self.old.counts }
@@ -133,7 +137,7 @@ impl<F: DiskFile> FileDisk<F> {
     }
 
     fn cut_of(&mut self, file: FileNo, to: u64) -> io::Result<()>
-        ensures asks { Asks F.DiskFile file (cuts to) (is_ok result) (opened self.old) (opened self.new) }
+        ensures asks { Asks F.DiskFile file (cuts to) (whether_done result) (opened self.old) (opened self.new) }
         ensures faults { self.new.faults ≡ self.old.faults }
         ensures counts { self.new.counts ≡ self.old.counts }
     {
@@ -145,7 +149,7 @@ impl<F: DiskFile> FileDisk<F> {
     }
 
     fn sync_of(&mut self, file: FileNo) -> io::Result<()>
-        ensures asks { Asks F.DiskFile file syncs (is_ok result) (opened self.old) (opened self.new) }
+        ensures asks { Asks F.DiskFile file syncs (whether_done result) (opened self.old) (opened self.new) }
         ensures faults { self.new.faults ≡ self.old.faults }
         ensures counts { self.new.counts ≡ self.old.counts }
     {
@@ -160,7 +164,7 @@ impl<F: DiskFile> FileDisk<F> {
     fn told<T: Drop>(&mut self, answer: io::Result<T>) -> Result<T, Failed>
         ensures cause { HasCause self.old.faults self.new.faults result }
         ensures quiet { OnOk result (self.new.faults ≡ self.old.faults) }
-        ensures same { is_ok result ≡ is_ok answer }
+        ensures same { ok_of result ≡ ok_of answer }
         ensures files { opened self.new ≡ opened self.old }
         ensures counts { self.new.counts ≡ self.old.counts }
     {
@@ -174,7 +178,11 @@ impl<F: DiskFile> FileDisk<F> {
     }
 }
 
-#[tactic(auto, using(crate::proofs::Asked::asked_then))]
+#[tactic(auto, using(
+    crate::proofs::Asked::length_then,
+    crate::proofs::Asked::bytes_then,
+    crate::proofs::Asked::done_then
+))]
 impl<F: DiskFile> Disk for FileDisk<F> {
     ghost tells = { false };
 
@@ -203,7 +211,7 @@ impl<F: DiskFile> Disk for FileDisk<F> {
     ghost holds_bytes = { untold_bytes };
 
     fn length(&mut self, file: FileNo) -> Result<u64, Failed>
-        ensures asks { Asks F.DiskFile file asks_length (is_ok result) (opened self.old) (opened self.new) }
+        ensures asks { Asks F.DiskFile file asks_length (length_told result) (opened self.old) (opened self.new) }
         ensures tally { file_tally self.new ≡ file_tally self.old }
         ensures time { Elapses (λ _. empty_disk) (λ _. 0) (λ _ _ s. s ≡ empty_disk) self.old self.new }
         ensures cause { HasCause (file_faults self.old) (file_faults self.new) result }
@@ -214,7 +222,7 @@ impl<F: DiskFile> Disk for FileDisk<F> {
     }
 
     fn read_at(&mut self, file: FileNo, at: u64, room: &mut [u8]) -> Result<(), Failed>
-        ensures asks { Asks F.DiskFile file (reads at (length room.old)) (is_ok result) (opened self.old) (opened self.new) }
+        ensures asks { Asks F.DiskFile file (reads at (length room.old)) (bytes_given room.new result) (opened self.old) (opened self.new) }
         ensures tally { file_tally self.new ≡ file_tally self.old }
         ensures time { Elapses (λ _. empty_disk) (λ _. 0) (λ _ _ s. s ≡ empty_disk) self.old self.new }
         ensures cause { HasCause (file_faults self.old) (file_faults self.new) result }
@@ -225,7 +233,7 @@ impl<F: DiskFile> Disk for FileDisk<F> {
     }
 
     fn write_at(&mut self, file: FileNo, at: u64, bytes: &[u8]) -> Result<(), Failed>
-        ensures asks { Asks F.DiskFile file (writes at bytes.now) (is_ok result) (opened self.old) (opened self.new) }
+        ensures asks { Asks F.DiskFile file (writes at bytes.now) (whether_done result) (opened self.old) (opened self.new) }
         ensures tally { IsWritten file (file_tally self.old) (file_tally self.new) }
         ensures time { Elapses (λ _. empty_disk) (λ _. 0) (λ _ _ s. s ≡ empty_disk) self.old self.new }
         ensures cause { HasCause (file_faults self.old) (file_faults self.new) result }
@@ -237,7 +245,7 @@ impl<F: DiskFile> Disk for FileDisk<F> {
     }
 
     fn cut(&mut self, file: FileNo, to: u64) -> Result<(), Failed>
-        ensures asks { Asks F.DiskFile file (cuts to) (is_ok result) (opened self.old) (opened self.new) }
+        ensures asks { Asks F.DiskFile file (cuts to) (whether_done result) (opened self.old) (opened self.new) }
         ensures tally { IsWritten file (file_tally self.old) (file_tally self.new) }
         ensures time { Elapses (λ _. empty_disk) (λ _. 0) (λ _ _ s. s ≡ empty_disk) self.old self.new }
         ensures cause { HasCause (file_faults self.old) (file_faults self.new) result }
@@ -249,7 +257,7 @@ impl<F: DiskFile> Disk for FileDisk<F> {
     }
 
     fn sync(&mut self, file: FileNo) -> Result<(), Failed>
-        ensures asks { Asks F.DiskFile file syncs (is_ok result) (opened self.old) (opened self.new) }
+        ensures asks { Asks F.DiskFile file syncs (whether_done result) (opened self.old) (opened self.new) }
         ensures synced { OnOk result (IsSynced file (file_tally self.old) (file_tally self.new)) }
         ensures unsynced { OnErr result (file_tally self.new ≡ file_tally self.old) }
         ensures time { Elapses (λ _. empty_disk) (λ _. 0) (λ _ _ s. s ≡ empty_disk) self.old self.new }

@@ -1,6 +1,7 @@
 // Replies over two writers of std.
 ghost use Rattle.std.specs.Prelude.{◌≡◌, ◌⊎◌, ◌≤◌, [], ◌∷◌, None, OnOk, OnErr};
-ghost use Rattle.std.specs.Io.KnownBytes.{Appends};
+ghost use Rattle.std.specs.Io.KnownBytes.{Appends, WriteAppends};
+ghost use Rattle.std.specs.Io.{WritesAtMost};
 ghost use Rattle.std.specs.Result.{IsErr};
 ghost use Rattle.office_base.specs.Faults.{HasCause, Rose};
 ghost use Rattle.http_text.specs.Replies.{answer_text};
@@ -13,9 +14,13 @@ use crate::bad::Bad;
 use crate::replies::Replies;
 use desk_core::Acked;
 use office_base::Failed;
-use std::io::Write;
+use std::io::{ErrorKind, Write};
 
-/// Two writers of std, the second for notes. The first takes replies and other texts alike, so neither is told.
+// Signals that may interrupt one write before it counts as failed.
+const INTERRUPTIONS: u32 = 10_000;
+
+/// Two writers of std, the second for notes. The first takes replies and other texts alike, so neither is told. A write
+/// that a signal interrupts is tried again, and is no fault.
 #[derive(Drop)]
 pub struct WriterReplies<W: Write + Drop, N: Write + Drop> {
     out: W,
@@ -60,16 +65,34 @@ impl<W: Write + Drop, N: Write + Drop> WriterReplies<W, N> {
     }
 }
 
+// One write, which is tried again if a signal interrupts it.
+fn write_retrying<W: Write>(writer: &mut W, bytes: &[u8]) -> Result<usize, Failed>
+    ensures bound { WritesAtMost result bytes.now }
+    ensures bytes { WriteAppends (W.contents writer.old) (W.contents writer.new) result bytes.now }
+{
+    for _ in 0..INTERRUPTIONS {
+        match writer.write(bytes) {
+            Ok(count) => return Ok(count),
+            Err(e) => {
+                if e.kind() != ErrorKind::Interrupted {
+                    return Err(Failed);
+                }
+            }
+        }
+    }
+    Err(Failed)
+}
+
 // Writes all, or a front.
 fn put_all<W: Write>(writer: &mut W, bytes: &[u8]) -> Result<(), Failed>
     ensures { PutsOut (W.contents writer.old) (W.contents writer.new) bytes.now result }
 {
     let mut done = 0;
     while done < bytes.len() {
-        match writer.write(&bytes[done..]) {
+        match write_retrying(writer, &bytes[done..]) {
             Ok(0) => return Err(Failed),
             Ok(count) => done += count,
-            Err(_) => return Err(Failed),
+            Err(e) => return Err(e),
         }
     }
     Ok(())

@@ -5,7 +5,10 @@ ghost use Rattle.std.specs.Io.KnownBytes.{ReadConsumes};
 ghost use Rattle.office_base.specs.Faults.{HasCause};
 
 use office_base::Failed;
-use std::io::Read;
+use std::io::{ErrorKind, Read};
+
+// Signals that may interrupt one read before it counts as failed.
+const INTERRUPTIONS: u32 = 10_000;
 
 /// A stream of bytes, read in pieces.
 pub trait Source {
@@ -32,7 +35,7 @@ pub trait Source {
         ensures quiet { OnOk result (faults self.new ≡ faults self.old) };
 }
 
-/// A reader of std, whose faults are counted.
+/// A reader of std, whose faults are counted. A read that a signal interrupts is tried again, and is no fault.
 #[derive(Drop)]
 pub struct ReaderSource<R: Read + Drop> {
     reader: R,
@@ -57,12 +60,30 @@ impl<R: Read + Drop> Source for ReaderSource<R> {
     ghost faults = { λ s. s.faults };
 
     fn read(&mut self, room: &mut [u8]) -> Result<usize, Failed> {
-        match self.reader.read(room) {
+        match read_retrying(&mut self.reader, room) {
             Ok(count) => Ok(count),
-            Err(_) => {
+            Err(e) => {
                 self.faults = self.faults.saturating_add(1);
-                Err(Failed)
+                Err(e)
             }
         }
     }
+}
+
+// One read, which is tried again if a signal interrupts it.
+fn read_retrying<R: Read>(reader: &mut R, room: &mut [u8]) -> Result<usize, Failed>
+    ensures bound { ReadsAtMost result room.new }
+    ensures bytes { ReadConsumes (R.remaining reader.old) (R.remaining reader.new) result room.new }
+{
+    for _ in 0..INTERRUPTIONS {
+        match reader.read(room) {
+            Ok(count) => return Ok(count),
+            Err(e) => {
+                if e.kind() != ErrorKind::Interrupted {
+                    return Err(Failed);
+                }
+            }
+        }
+    }
+    Err(Failed)
 }

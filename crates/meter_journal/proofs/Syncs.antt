@@ -2,8 +2,7 @@
 use Rattle.std.proofs.Common.{◌≡◌, sym, ◌∙◌, ap, refl, subst, ◌≤◌, Result, Ok, Err, arith}
 use Rattle.std.specs.Prelude.{OnOk, OnErr}
 use Rattle.disk_core.specs.declared.disk.FileNo.TheVariants.{Journal}
-use Rattle.disk_core.specs.Tallies.{Tally, IsWritten, IsSynced, IsDurable}
-use Rattle.meter_journal.specs.Syncs.{EndsSynced}
+use Rattle.disk_core.specs.Tallies.{Tally, IsWritten, IsSynced, EndsSynced, IsDurable}
 
 -- the journal alone was asked
 pub record AsksJournal (old new : Tally) : Type 0 where
@@ -22,8 +21,8 @@ module _ {old mid new : Tally} where
     slot1 = so_far.slot1;
   })
 
-  pub and_synced : AsksJournal old mid → IsSynced Journal mid new → EndsSynced old new
-  and_synced so_far (n, rose, is) = subst (EndsSynced old) (sym is) (record {
+  pub and_synced : AsksJournal old mid → IsSynced Journal mid new → EndsSynced 1 old new
+  and_synced so_far (n, rose, is) = subst (EndsSynced 1 old) (sym is) (record {
     syncs = omega (arith, rose, so_far.syncs);
     journal = refl;
     slot0 = so_far.slot0;
@@ -31,7 +30,7 @@ module _ {old mid new : Tally} where
   })
 
   -- two syncs
-  pub twice : EndsSynced old mid → EndsSynced mid new → IsDurable old new
+  pub twice : EndsSynced 1 old mid → EndsSynced 1 mid new → IsDurable old new
   twice first second = record {
     syncs = omega (arith, first.syncs, second.syncs);
     journal = second.journal;

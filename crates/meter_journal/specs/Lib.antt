@@ -2,4 +2,3 @@ pub mod Created
 pub mod History
 pub mod Places
 pub mod Reading
-pub mod Syncs

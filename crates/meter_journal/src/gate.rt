@@ -5,7 +5,7 @@ ghost use Rattle.disk_core.specs.Files.{put, synced_file};
 ghost use Rattle.disk_core.specs.Moments.{KeepsTo};
 ghost use Rattle.disk_core.specs.Fronts.{IsButOne};
 ghost use Rattle.meter_journal.specs.History.{IsNoLonger};
-ghost use Rattle.meter_journal.specs.Syncs.{EndsSynced};
+ghost use Rattle.disk_core.specs.Tallies.{EndsSynced};
 
 use disk_core::{Disk, Failed, FileNo};
 
@@ -26,7 +26,7 @@ pub(crate) fn open_gate<D: Disk>(disk: &mut D, gate: u64) -> Result<(), Failed>
     ensures room { IsTrue D.honest → (n : ℕ) → gate + 1 ≤ n → IsNoLonger n (D.state disk.old)
         → KeepsTo D.Disk disk.old disk.new (IsNoLonger n) }
 
-    ensures synced { OnOk result (EndsSynced (D.tally disk.old) (D.tally disk.new)) }
+    ensures synced { OnOk result (EndsSynced 1 (D.tally disk.old) (D.tally disk.new)) }
     ensures cause { HasCause (D.fault_count disk.old) (D.fault_count disk.new) result }
     ensures quiet { OnOk result (D.fault_count disk.new ≡ D.fault_count disk.old) }
 {

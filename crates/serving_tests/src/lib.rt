@@ -4,6 +4,8 @@
 #[cfg(test)]
 mod http_front_tests;
 #[cfg(test)]
+mod interrupted_tests;
+#[cfg(test)]
 mod serve_tests;
 #[cfg(test)]
 mod tcp_tests;

@@ -3,8 +3,8 @@ use Rattle.std.proofs.Common.{◌≡◌, ◌≢◌, ◌≤◌, ℕ, ◌+◌, fal
 use Rattle.std.specs.Prelude.{OnOk, OnErr}
 use Rattle.disk_core.specs.declared.disk.FileNo.{FileNo}
 use Rattle.disk_core.specs.declared.disk.FileNo.TheVariants.{Journal, Slot0, Slot1}
-use Rattle.disk_core.specs.Tallies.{Tally, IsWritten, IsSynced}
-use Rattle.slots.specs.Synced.{LeavesSynced, KeepsSynced, SyncedTimes, mark_of}
+use Rattle.disk_core.specs.Tallies.{Tally, IsWritten, IsSynced, SyncedTimes}
+use Rattle.slots.specs.Synced.{LeavesSynced, KeepsSynced, mark_of}
 
 -- whether a file but this one is to be synced is as before; the syncs are not fewer
 pub record LeavesOthers (file : FileNo) (old new : Tally) : Type 0 where

@@ -1,14 +1,10 @@
 -- What a save leaves of the tally of a disk.
-use Rattle.std.specs.Prelude.{◌≡◌, ◌≢◌, ◌+◌, ◌-◌, ◌^◌, ◌≤◌, min, ℕ, Bool, false}
+use Rattle.std.specs.Prelude.{◌≡◌, ◌≢◌, ℕ, Bool, false}
 use Rattle.disk_core.specs.declared.disk.FileNo.{FileNo}
 use Rattle.disk_core.specs.declared.disk.FileNo.TheVariants.{Journal, Slot0, Slot1}
-use Rattle.disk_core.specs.Tallies.{Tally}
+use Rattle.disk_core.specs.Tallies.{Tally, SyncedTimes}
 
--- so many syncs or more were done
-abbrev pub SyncedTimes : ℕ → Tally → Tally → Type 0
-SyncedTimes n old new = min (old.syncs + n) (2 ^ 64 - 1) ≤ new.syncs
-
--- So many syncs or more were done, and no write or cut of a slot came after that slot's last. Whether one of the journal
+-- n syncs or more were done, and no write or cut of a slot came after that slot's last. Whether one of the journal
 -- came after its own last is as before.
 pub record LeavesSynced (n : ℕ) (old new : Tally) : Type 0 where
   pub syncs : SyncedTimes n old new
@@ -22,7 +18,7 @@ mark_of Journal t = t.journal
 mark_of Slot0 t = t.slot0
 mark_of Slot1 t = t.slot1
 
--- So many syncs or more were done. This file stays synced if it was, and whether another is to be synced is as before.
+-- n syncs or more were done. This file stays synced if it was, and whether another is to be synced is as before.
 pub record KeepsSynced (file : FileNo) (n : ℕ) (old new : Tally) : Type 0 where
   pub syncs : SyncedTimes n old new
   pub own : mark_of file old ≡ false → mark_of file new ≡ false

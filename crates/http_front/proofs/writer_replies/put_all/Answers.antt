@@ -17,9 +17,9 @@ loop-done-preserved g c =
     let contents = g.W.Write.contents in
     record {
       inside = omega (arith, c.loop-done.invariant.inside, c.in-Ok.ensures.bound, length-drop d bytes);
-      said = subst (Appends (contents c.args.writer.now) (contents c.write.new.self)) (sym (take_parts d n bytes c.loop-done.invariant.inside))
-          (Appends-trans (contents c.args.writer.now) (contents c.loop-done.writer) (contents c.write.new.self) (take d bytes) (take n (drop d bytes)) c.loop-done.invariant.said
-          (subst (λ (t : List ℕ). Appends (contents c.loop-done.writer) (contents c.write.new.self) (take n t))
+      said = subst (Appends (contents c.args.writer.now) (contents c.write_retrying.new.writer)) (sym (take_parts d n bytes c.loop-done.invariant.inside))
+          (Appends-trans (contents c.args.writer.now) (contents c.loop-done.writer) (contents c.write_retrying.new.writer) (take d bytes) (take n (drop d bytes)) c.loop-done.invariant.said
+          (subst (λ (t : List ℕ). Appends (contents c.loop-done.writer) (contents c.write_retrying.new.writer) (take n t))
           (take_all (length bytes - d) (drop d bytes) (omega (arith, length-drop d bytes)))
           c.in-Ok.ensures.bytes));
     }
