@@ -1,4 +1,4 @@
--- How dates and months are read: YYYY-MM-DD, alone or followed by T, a time and an offset of zero; and YYYY-MM.
+-- How dates and months are read: YYYY-MM-DD, or the same followed by T, a time and an offset of zero; and YYYY-MM.
 use Rattle.std.specs.Prelude.{◌≡◌, ℕ, ◌+◌, ◌-◌, ◌*◌, Bool, true, false, ◌&&◌, ◌||◌, ◌==◌, nat_le, nat_lt, List, [], ◌∷◌, length, drop}
 use Rattle.std.specs.Prelude.{slice_index, take_while, bytes_eq, codes, if◌then◌else◌}
 use Rattle.std.specs.List.{list_all}
@@ -8,20 +8,20 @@ use Rattle.moments.specs.Months.{month_number, has_month, has_day, midnight_in}
 abbrev pub is_digit : ℕ → Bool
 is_digit c = nat_le 48 c && nat_le c 57
 
--- two digits stand at this place, and the number that they are
+-- two digits are at this place
 abbrev pub has_two_at : List ℕ → ℕ → Bool
 has_two_at text at = is_digit (slice_index text at) && is_digit (slice_index text (at + 1))
 
--- the number that two digits at this place are, from 0 to 99
+-- the number of two digits at this place, from 0 to 99
 abbrev pub two_at : List ℕ → ℕ → ℕ
 two_at text at = (slice_index text at - 48) * 10 + (slice_index text (at + 1) - 48)
 
--- four digits, a hyphen and two digits stand at the beginning, as 2014-01
+-- the text begins with four digits, a hyphen and two digits, as 2014-01
 unfoldable pub begins_with_month : List ℕ → Bool
 begins_with_month text =
     nat_le 7 (length text) && has_two_at text 0 && has_two_at text 2 && (slice_index text 4 == 45) && has_two_at text 5
 
--- the year and the month that those are
+-- the year of the month with which a text begins
 abbrev pub year_in : List ℕ → ℕ
 year_in text = two_at text 0 * 100 + two_at text 2
 
@@ -33,7 +33,7 @@ month_in text = two_at text 5
 unfoldable pub is_month : List ℕ → Bool
 is_month text = begins_with_month text && (length text == 7) && has_month (year_in text) (month_in text)
 
--- behind the month a hyphen and two digits stand, as 2014-01-19
+-- the text begins with a month, a hyphen and two digits, as 2014-01-19
 unfoldable pub begins_with_date : List ℕ → Bool
 begins_with_date text =
     begins_with_month text && nat_le 10 (length text) && (slice_index text 7 == 45) && has_two_at text 8
@@ -46,26 +46,26 @@ day_in text = two_at text 8
 abbrev pub is_day : ℕ → ℕ → ℕ → Bool
 is_day year month day_of_month = has_month year month && has_day (month_number year month) day_of_month
 
--- an offset of zero
+-- the text is an offset of zero: Z, +00:00 or -00:00
 abbrev pub is_utc : List ℕ → Bool
 is_utc text = bytes_eq text (codes "Z") || bytes_eq text (codes "+00:00") || bytes_eq text (codes "-00:00")
 
--- how many digits stand at the beginning
+-- how many digits the text begins with
 abbrev pub digit_count : List ℕ → ℕ
 digit_count text = length (take_while is_digit text)
 
--- an offset of zero, and before it perhaps a point and 1 to 9 digits
+-- the text is an offset of zero, with an optional point and 1 to 9 digits before it
 abbrev pub is_clock_end : List ℕ → Bool
 is_clock_end [] = false
 is_clock_end (c ∷ text) =
     if c == 46 then nat_le 1 (digit_count text) && nat_le (digit_count text) 9 && is_utc (drop (digit_count text) text)
     else is_utc (c ∷ text)
 
--- two digits of a number up to a limit stand at this place
+-- two digits are at this place, and their number is not above the limit
 abbrev pub has_part_at : List ℕ → ℕ → ℕ → Bool
 has_part_at text at limit = has_two_at text at && nat_le (two_at text at) limit
 
--- hours, minutes and seconds stand at the beginning, as T10:30:00
+-- the text begins with hours, minutes and seconds, as T10:30:00
 unfoldable pub begins_with_clock : List ℕ → Bool
 begins_with_clock text =
     nat_le 9 (length text) && (slice_index text 0 == 84)
@@ -76,25 +76,25 @@ begins_with_clock text =
 unfoldable pub is_time : List ℕ → Bool
 is_time text = begins_with_clock text && is_clock_end (drop 9 text)
 
--- a date, alone or with a time
+-- a date of the calendar, with or without a time
 unfoldable pub is_date : List ℕ → Bool
 is_date text =
     begins_with_date text && ((length text == 10) || is_time (drop 10 text))
     && is_day (year_in text) (month_in text) (day_in text)
 
--- no digit from 1 to 9
+-- any character but a digit from 1 to 9
 abbrev pub is_zero_digit : ℕ → Bool
 is_zero_digit c = nat_lt c 49 || nat_lt 57 c
 
--- its time, where it has one, is midnight: behind the date no digit stands but 0
+-- the time of a date, if it has one, is midnight: after the date the only digit is 0
 unfoldable pub is_at_midnight : List ℕ → Bool
 is_at_midnight text = list_all is_zero_digit (drop 10 text)
 
--- the midnight at which it begins
+-- the midnight at which the date in the text begins
 abbrev pub midnight_of : List ℕ → ℕ
 midnight_of text = midnight_in (month_number (year_in text) (month_in text)) (day_in text)
 
--- it is read as this midnight
+-- the text is a date at midnight, and is read as the moment m
 pub record IsReadAs (text : List ℕ) (m : ℕ) : Type 0 where
   pub date : is_date text ≡ true
   pub at_midnight : is_at_midnight text ≡ true

@@ -2,7 +2,7 @@
 use Rattle.std.specs.Prelude.{◌≡◌, ℕ, zero, suc, ◌+◌, ◌-◌, ◌*◌, ◌/◌, ◌%◌, ◌<◌, ◌≤◌, ◌==◌, nat_le, Bool, not, ◌&&◌, ◌||◌, if◌then◌else◌}
 use Rattle.moments.specs.Time.{day}
 
--- the months from 1970-01 to 2099-12
+-- the number of months from 1970-01 to 2099-12
 abbrev pub months : ℕ
 months = 1560
 
@@ -10,11 +10,11 @@ months = 1560
 abbrev pub year_of : ℕ → ℕ
 year_of month = 1970 + month / 12
 
--- from 1 for January
+-- the place of the month in its year, from 1 for January
 abbrev pub month_of_year : ℕ → ℕ
 month_of_year month = month % 12 + 1
 
--- the month of this year, from 1 for January
+-- the number of a month, given its year and its place in the year (from 1 for January)
 abbrev pub month_number : ℕ → ℕ → ℕ
 month_number year month = (year - 1970) * 12 + (month - 1)
 
@@ -22,11 +22,11 @@ month_number year month = (year - 1970) * 12 + (month - 1)
 abbrev pub has_month : ℕ → ℕ → Bool
 has_month year month = nat_le 1970 year && nat_le year 2099 && nat_le 1 month && nat_le month 12
 
--- every fourth year, but of the centuries only every fourth
+-- every fourth year, except centuries that are not divisible by 400
 abbrev pub is_leap_year : ℕ → Bool
 is_leap_year year = (year % 4 == 0) && (not (year % 100 == 0) || (year % 400 == 0))
 
--- the days of a month of the year, from 1 for January: thirty have April, June, September and November
+-- how many days the month has; 1 is January
 abbrev pub days_in_month : ℕ → ℕ → ℕ
 days_in_month year month =
     if month == 2 then (if is_leap_year year then 29 else 28)
@@ -45,12 +45,12 @@ days_before_year year = let y = year - 1 in 365 * y + y / 4 - y / 100 + y / 400
 unfoldable pub first_day : ℕ → ℕ
 first_day month = days_before_year (year_of month) - days_before_year 1970 + days_of_months (year_of month) (month % 12)
 
--- the window of a month: its first moment, and the first moment after it (S3 User Guide, "Understanding your AWS
--- billing and usage reports for Amazon S3": usage is told by calendar months in UTC)
+-- the first moment of a month (S3 User Guide, "Understanding your AWS billing and usage reports for Amazon S3": usage
+-- is reported by calendar months in UTC)
 abbrev pub month_start : ℕ → ℕ
 month_start month = first_day month * day
 
--- the first moment that is after the month
+-- the first moment after the month
 abbrev pub month_end : ℕ → ℕ
 month_end month = month_start (month + 1)
 
@@ -72,16 +72,16 @@ pub record IsInMonth (month m : ℕ) : Type 0 where
   pub begun : month_start month ≤ m
   pub not_over : m < month_end month
 
--- how many of the first n months are over at the moment
+-- how many of the first n months have ended by the moment
 unfoldable pub months_over : ℕ → ℕ → ℕ
 months_over m zero = 0
 months_over m (suc n) = months_over m n + (if nat_le (month_end n) m then 1 else 0)
 
--- the month in which the moment lies: as many as are over
+-- the month that contains the moment: its number is how many months have ended
 abbrev pub month_at : ℕ → ℕ
 month_at m = months_over m months
 
--- the day with this number, from 0 for 1970-01-01, is this one of the calendar
+-- the day with this number, from 0 for 1970-01-01, has this date
 pub record IsDayOf (number year month day_of_month : ℕ) : Type 0 where
   pub year_in : (1970 ≤ year) × (year ≤ 2100)
   pub month_in : (1 ≤ month) × (month ≤ 12)

@@ -42,7 +42,7 @@ fn month_form(text: &[u8]) -> (u16, u8)
 ///
 /// # Errors
 ///
-/// `NotAMonth`: the text is not `YYYY-MM`, or no month from 1970-01 to 2099-12.
+/// `NotAMonth`: the text is not `YYYY-MM`, or not a month from 1970-01 to 2099-12.
 #[tactic(auto, unfolding(crate::specs::Dates::is_month))]
 pub fn read_month(text: &str) -> Result<Month, MomentRefusal>
     ensures ok { IfOk result
@@ -71,7 +71,7 @@ fn has_date_form(text: &[u8]) -> bool
     text[7] == b'-' && has_two(text, 8)
 }
 
-// The midnight at which the date begins that a text begins with.
+// The midnight at which a date begins; the text begins with the date.
 #[tactic(auto, unfolding(crate::specs::Dates::begins_with_date))]
 fn date_form(text: &[u8]) -> Option<Moment>
     requires { begins_with_date text.now ≡ true }
@@ -97,7 +97,7 @@ fn count_digits(text: &[u8]) -> usize
     text.iter().take_while(|c| c.is_ascii_digit()).count()
 }
 
-// What stands behind the seconds.
+// The text after the seconds is an offset of zero, with an optional point and 1 to 9 digits before it.
 fn ends_clock(text: &[u8]) -> bool
     ensures { result ≡ is_clock_end text.now }
 {
@@ -113,7 +113,7 @@ fn ends_clock(text: &[u8]) -> bool
     }
 }
 
-// Two digits of a number up to a limit stand at this place.
+// Two digits are at this place, and their number is not above the limit.
 fn has_part(text: &[u8], at: usize, limit: u16) -> bool
     requires { at + 2 ≤ length text.now }
     ensures { result ≡ has_part_at text.now at limit }
@@ -145,7 +145,7 @@ fn has_time_form(text: &[u8]) -> bool
     has_clock(text) && ends_clock(&text[9..])
 }
 
-// The text is a date alone, or a time stands behind it.
+// The text is a date, with or without a time after it.
 fn ends_date(text: &[u8]) -> bool
     requires { 10 ≤ length text.now }
     ensures { result ≡ ((length text.now == 10) || is_time (drop 10 text.now)) }
@@ -174,24 +174,23 @@ fn is_zero_byte(c: u8) -> bool
     c < b'1' || b'9' < c
 }
 
-// No digit but 0 stands in a time.
+// The only digit in a time is 0.
 fn is_midnight(time: &[u8]) -> bool
     ensures { result ≡ list_all is_zero_digit time.now }
 {
     time.iter().all(|c| is_zero_byte(*c))
 }
 
-/// Reads the midnight at which a date begins, as `2014-01-19`, alone or with a time in UTC, as
-/// `2014-01-19T00:00:00.000Z`.
-/// Takes no memory.
+/// Reads the midnight at which a date begins. The date is `2014-01-19`, or has a time in UTC, as
+/// `2014-01-19T00:00:00.000Z`. Takes no memory.
 ///
-/// Own rule: the time is `T`, `HH:MM:SS`, perhaps a point and 1 to 9 digits, and `Z`, `+00:00` or `-00:00`. Rule: S3
+/// Own rule: the time is `T`, `HH:MM:SS`, an optional point and 1 to 9 digits, and `Z`, `+00:00` or `-00:00`. Rule: S3
 /// User Guide, "Lifecycle configuration elements": a date in a rule is a midnight in UTC.
 ///
 /// # Errors
 ///
-/// `NotADate`: the text has not that form, or is no date from 1970-01-01 to 2099-12-31. `NotMidnight`: its time is not
-/// midnight.
+/// `NotADate`: the text has another form, or is not a date from 1970-01-01 to 2099-12-31. `NotMidnight`: its time is
+/// not midnight.
 #[tactic(auto, unfolding(crate::specs::Dates::is_at_midnight))]
 pub fn read_date(text: &str) -> Result<Moment, MomentRefusal>
     ensures ok { IfOk result (λ m. IsReadAs text.now m) }

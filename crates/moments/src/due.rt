@@ -12,7 +12,7 @@ use crate::{Moment, MomentRefusal};
 ///
 /// # Errors
 ///
-/// `PastEnd`: that midnight is not below `END`.
+/// `PastEnd`: that midnight is `END` or later.
 pub fn up(m: Moment) -> Result<Moment, MomentRefusal>
     ensures ok { IfOk result (λ u. (u ≡ next_midnight m) × (next_midnight m < end_of_time)) }
     ensures past_end { OnErr result (end_of_time ≤ next_midnight m) }
@@ -21,14 +21,14 @@ pub fn up(m: Moment) -> Result<Moment, MomentRefusal>
     Moment::of(m.ms().div_ceil(DAY) * DAY)
 }
 
-/// Gives the moment at which an action is due that comes this many days after a moment: rounded up to a midnight UTC.
-/// Takes no memory.
+/// Gives the moment at which an action is due, this many days after a moment and rounded up to a midnight UTC. Takes no
+/// memory.
 ///
 /// Rule: S3 User Guide, "Lifecycle configuration elements".
 ///
 /// # Errors
 ///
-/// `PastEnd`: that midnight is not below `END`, so the action is never due.
+/// `PastEnd`: that midnight is `END` or later, so the action is never due.
 pub fn due_after(m: Moment, days: u32) -> Result<Moment, MomentRefusal>
     ensures ok { IfOk result (λ at. (at ≡ due m days) × (due m days < end_of_time)) }
     ensures past_end { OnErr result (end_of_time ≤ due m days) }
@@ -38,7 +38,7 @@ pub fn due_after(m: Moment, days: u32) -> Result<Moment, MomentRefusal>
     Moment::of(later.div_ceil(DAY) * DAY)
 }
 
-/// States that the formula of a midnight gives the least one that is not before the moment, and no other.
+/// States that the formula of a midnight gives the least one that is not before the moment, and that there is only one.
 pub fn next_midnights()
     ensures is { (m : ℕ) → IsNextMidnight m (next_midnight m) }
     ensures only { (m u : ℕ) → IsNextMidnight m u → u ≡ next_midnight m }

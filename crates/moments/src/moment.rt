@@ -4,8 +4,7 @@ ghost use Rattle.moments.specs.Time.{end_of_time, last_moment};
 
 use std::marker::Model;
 
-/// The first number that is no moment, in milliseconds: 2100-01-01 00:00 UTC. Own rule: an end keeps every sum in
-/// range.
+/// The first millisecond after all moments: 2100-01-01 00:00 UTC. Own rule: this bound keeps every sum in range.
 pub const END: u64 = 4_102_444_800_000;
 
 /// The milliseconds of a day.
@@ -33,13 +32,13 @@ impl Model for Moment {
 /// Why there is no moment.
 #[derive(Clone, Copy, Debug, PartialEq, Eq)]
 pub enum MomentRefusal {
-    /// The number is not below `END`.
+    /// The number is `END` or above.
     PastEnd,
-    /// The text is no date, alone or with a time, from 1970-01-01 to 2099-12-31.
+    /// The text is not a date from 1970-01-01 to 2099-12-31, with or without a time.
     NotADate,
     /// The date's time is not midnight.
     NotMidnight,
-    /// The text is no month from 1970-01 to 2099-12.
+    /// The text is not a month from 1970-01 to 2099-12.
     NotAMonth,
 }
 
@@ -48,7 +47,7 @@ impl Moment {
     ///
     /// # Errors
     ///
-    /// `PastEnd`: the number is not below `END`.
+    /// `PastEnd`: the number is `END` or above.
     pub fn of(ms: u64) -> Result<Moment, MomentRefusal>
         ensures ok { IfOk result (λ m. (m ≡ ms) × (ms < end_of_time)) }
         ensures past_end { OnErr result (end_of_time ≤ ms) }
@@ -61,7 +60,7 @@ impl Moment {
         }
     }
 
-    /// Gives the last moment that there is: one millisecond before `END`.
+    /// Gives the last moment: one millisecond before `END`.
     pub fn last() -> Moment
         ensures { result ≡ last_moment }
     {

@@ -15,7 +15,7 @@ use std::marker::Model;
 /// A calendar month from 1970-01 to 2099-12, in UTC.
 #[derive(Clone, Copy, Debug, PartialEq, Eq)]
 pub struct Month {
-    // From 0 for January 1970.
+    // Counted from 0 for January 1970.
     number: u16,
 }
 
@@ -33,7 +33,7 @@ impl Model for Month {
 }
 
 impl Month {
-    /// Gives the month of a year, counted from 1 for January; None outside 1970-01 to 2099-12. Takes no memory.
+    /// Gives the month of a year, from 1 for January; None if it is not from 1970-01 to 2099-12. Takes no memory.
     pub fn of(year: u16, month: u8) -> Option<Month>
         ensures some { IfSome result (λ m. (m ≡ month_number year month) × (has_month year month ≡ true)) }
         ensures none { IfNone result (has_month year month ≡ false) }
@@ -81,7 +81,7 @@ impl Month {
         }
     }
 
-    // The midnight at which a day of the month begins; None where the month has no such day.
+    // The midnight at which a day of the month begins; None if the month has no such day.
     #[tactic(auto, using(crate::proofs::Calendar::first_day_next, crate::proofs::Calendar::first_day_small))]
     pub(crate) fn midnight(self, day: u8) -> Option<Moment>
         ensures none { IfNone result (has_day self day ≡ false) }
@@ -106,7 +106,7 @@ fn epoch() -> Date
     Date::constant(1970, 1, 1)
 }
 
-// The days from 1970-01-01 to a date that is not before it.
+// The days from 1970-01-01 to this date; the date is not before 1970-01-01.
 fn days_until(date: Date) -> u64
     requires { pos 0 ≤ℤ epoch_day date }
     ensures { pos result ≡ epoch_day date }
@@ -124,8 +124,8 @@ fn days_before(number: u16) -> u64
     days_until(first)
 }
 
-/// Gives a month's first moment, and the first moment after it, in milliseconds; the last month ends at `END`. Takes no
-/// memory.
+/// Gives the first moment of a month and the first moment after it, in milliseconds. The last month ends at `END`.
+/// Takes no memory.
 ///
 /// Rule: S3 User Guide, "Understanding your AWS billing and usage reports for Amazon S3": calendar months in UTC.
 pub fn month_window(month: Month) -> (u64, u64)
@@ -146,7 +146,7 @@ pub(crate) struct Day {
     pub(crate) day: u8,
 }
 
-// The day on which a moment, or END, lies.
+// The day of a moment, or of END.
 pub(crate) fn day_of(ms: u64) -> Day
     requires { ms ≤ end_of_time }
     ensures { IsDayOf (ms / day) result.year result.month result.day }
@@ -159,7 +159,7 @@ pub(crate) fn day_of(ms: u64) -> Day
     }
 }
 
-/// Gives the month in which a moment lies. Takes no memory.
+/// Gives the month of a moment. Takes no memory.
 pub fn month_of(m: Moment) -> Month
     ensures within { IsInMonth result m }
     ensures month { result ≡ month_at m }
@@ -170,8 +170,8 @@ pub fn month_of(m: Moment) -> Month
     }
 }
 
-/// States what the months are: each begins on the day that is its year's and month's first in jiff's calendar, and has
-/// as many days; and together, each ending where the next one begins, they hold all moments.
+/// States that the months are those of jiff's calendar: each has the same first day and as many days. Each month ends
+/// where the next one begins, and every moment is in a month.
 #[tactic(auto, using(crate::proofs::Calendar::calendar))]
 pub fn calendar_months()
     ensures first { (k : ℕ) → IsFirstOfMonth k }

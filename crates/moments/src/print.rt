@@ -32,7 +32,7 @@ fn print_clock(time: u64) -> [u8; 12]
 
 /// Writes a moment, or `END`, as `2014-01-19T00:00:00.000Z`. Takes no memory.
 ///
-/// Own rule: a moment has one text, in UTC and with three digits behind the point.
+/// Own rule: a moment has one text, in UTC and with three digits after the point.
 pub fn print_moment(ms: u64) -> [u8; 24]
     requires { ms ≤ end_of_time }
     ensures { result ≡ moment_text ms }
