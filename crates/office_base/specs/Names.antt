@@ -1,5 +1,5 @@
 -- The names of buckets (S3 User Guide, "General purpose bucket naming rules"; adjacent dots and address forms are not
--- looked at).
+-- checked).
 use Rattle.std.specs.Prelude.{ℕ, Bool, ◌&&◌, ◌||◌, nat_le, ◌==◌, List, length, get_or, ◌-◌}
 use Rattle.std.specs.Bool.{IsTrue}
 use Rattle.std.specs.List.{list_all}
@@ -8,7 +8,7 @@ use Rattle.std.specs.List.{list_all}
 abbrev pub is_name_end : ℕ → Bool
 is_name_end c = (nat_le 97 c && nat_le c 122) || (nat_le 48 c && nat_le c 57)
 
--- those, a dot and a hyphen
+-- a lower-case letter, a digit, a dot or a hyphen
 abbrev pub is_name_char : ℕ → Bool
 is_name_char c = is_name_end c || (c == 46) || (c == 45)
 

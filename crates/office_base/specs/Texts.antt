@@ -1,4 +1,4 @@
--- Texts among others.
+-- Whether a text is in a list.
 use Rattle.std.specs.Prelude.{ℕ, Bool, List}
 use Rattle.std.specs.List.{list_any}
 use Rattle.std.specs.Str.{bytes_eq}

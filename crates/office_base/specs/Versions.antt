@@ -3,13 +3,13 @@ use Rattle.std.specs.Prelude.{ℕ, ◌^◌, ◌<◌, Bool, false, ◌&&◌, nat_
 use Rattle.office_base.specs.declared.version_id.VersionId.{VersionId}
 use Rattle.office_base.specs.declared.version_id.VersionId.TheVariants.{Null, Number}
 
--- the null version (S3 User Guide, "How S3 Versioning works"), or the number of a version, in digits without a leading
--- zero (own)
+-- the text of a version id: `null` (S3 User Guide, "How S3 Versioning works"), or the number in digits without a
+-- leading zero (own)
 abbrev pub id_text : VersionId → List ℕ
 id_text Null = codes "null"
 id_text (Number n) = decimal n
 
--- numbers count from 1, and have 64 bits
+-- a version id in range: null, or a number from 1 to 2^64 - 1
 abbrev pub IsVersionId : VersionId → Type 0
 IsVersionId Null = Unit {0}
 IsVersionId (Number n) = (0 < n) × (n < 2 ^ 64)

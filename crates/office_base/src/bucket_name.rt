@@ -13,11 +13,11 @@ use std::alloc::{AllocError, Global};
 use std::cmp::Ordering;
 use std::marker::Model;
 
-/// The name of a bucket: 3 to 63 lower-case ASCII letters, digits, dots and hyphens, with neither a dot nor a hyphen at
-/// either end. Names are compared by their bytes.
+/// The name of a bucket: 3 to 63 lower-case ASCII letters, digits, dots and hyphens. The first and the last character
+/// are letters or digits. Names are compared by their bytes.
 ///
-/// Rule: S3 User Guide, "General purpose bucket naming rules". Adjacent dots, address forms and reserved beginnings are
-/// not looked at.
+/// Rule: S3 User Guide, "General purpose bucket naming rules". Adjacent dots, address forms and reserved prefixes are
+/// not checked.
 #[derive(Drop)]
 pub struct BucketName {
     text: String,
@@ -70,8 +70,8 @@ impl BucketName {
     ///
     /// # Errors
     ///
-    /// `BadBucketName`: the text has not 3 to 63 characters, has one that is no lower-case ASCII letter, digit, dot or
-    /// hyphen, or begins or ends with a dot or hyphen. `NoMemory`: memory ran out.
+    /// `BadBucketName`: the text does not have 3 to 63 characters, or begins or ends with a dot or hyphen. Or a
+    /// character is not a lower-case ASCII letter, digit, dot or hyphen. `NoMemory`: memory ran out.
     pub fn read(alloc: Global, text: &str) -> Result<BucketName, NameRefusal>
         ensures ok { IfOk result (λ name. (name ≡ text.now) × IsBucketName text.now) }
         ensures bad { IsErrOf result NameRefusal.BadBucketName ↔ (is_bucket_name text.now ≡ false) }
@@ -86,7 +86,7 @@ impl BucketName {
         }
     }
 
-    /// Copies the name. Fails only for want of memory.
+    /// Copies the name. Fails only if memory runs out.
     pub fn copy(&self) -> Result<BucketName, AllocError>
         ensures { IfOk result (λ name. name ≡ self.now) }
     {

@@ -1,6 +1,6 @@
 // Answers without a value.
 
-/// A call on the outside, such as a disk or a stream, was not done, or was done in part.
+/// An outside call, such as one to a disk or a stream, was not done, or was only partly done.
 #[derive(Clone, Copy, Debug, PartialEq, Eq)]
 pub struct Failed;
 

@@ -3,7 +3,7 @@ ghost use Rattle.std.specs.Prelude.{◌≡◌};
 
 use std::marker::Model;
 
-/// A list in a value that is compared as a whole: contracts see what it holds, in order, and not where it lies.
+/// A list in a value that is compared as a whole: contracts see its items in order, not its address.
 #[derive(Drop)]
 pub struct Items<T> {
     items: Vec<T>,

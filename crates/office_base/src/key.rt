@@ -30,7 +30,7 @@ impl Model for Key {
     ghost invariant = { λ k. IsKey (string_bytes k.text) };
 }
 
-// The bytes as a text, where an object may have them for its key.
+// The bytes as a text, if they are a valid key.
 #[tactic(auto, using(crate::proofs::Utf8::utf8_tests), unfolding(crate::specs::Keys::is_key))]
 fn key_text(bytes: &[u8]) -> Option<&str>
     ensures some { IfSome result (λ text. (text.now ≡ bytes.now) × IsKey bytes.now) }
@@ -50,7 +50,7 @@ impl Key {
     ///
     /// # Errors
     ///
-    /// `BadKey`: the bytes are not 1 to 1,024, or are not UTF-8. `NoMemory`: memory ran out.
+    /// `BadKey`: there are not 1 to 1,024 bytes, or they are not UTF-8. `NoMemory`: memory ran out.
     pub fn read(alloc: Global, bytes: &[u8]) -> Result<Key, NameRefusal>
         ensures ok { IfOk result (λ key. (key ≡ bytes.now) × IsKey bytes.now) }
         ensures bad { IsErrOf result NameRefusal.BadKey ↔ (is_key bytes.now ≡ false) }
@@ -65,7 +65,7 @@ impl Key {
         }
     }
 
-    /// Copies the key. Fails only for want of memory.
+    /// Copies the key. Fails only if memory runs out.
     pub fn copy(&self) -> Result<Key, AllocError>
         ensures { IfOk result (λ key. key ≡ self.now) }
     {

@@ -1,4 +1,4 @@
-//! Names, keys, tags, sizes and version ids in range, and the answers that every crate shares.
+//! Names, keys, tags, sizes and version ids in range, and the answers that all crates share.
 #![tactic(auto)]
 
 mod bucket_name;

@@ -10,10 +10,11 @@ use crate::NameRefusal;
 use std::alloc::{AllocError, Global};
 use std::marker::Model;
 
-/// The tags of an object: at most 10 pairs of a key and a value, in the byte order of their keys, which differ.
+/// The tags of an object: at most 10 pairs of a key and a value. The keys differ, and the pairs are in the byte order
+/// of the keys.
 ///
-/// Rule: S3 User Guide, "Categorizing your objects using tags". Own rule: the order, so that the same tags are written
-/// in one way.
+/// Rule: S3 User Guide, "Categorizing your objects using tags". Own rule: the order, so that equal sets of tags have
+/// one text.
 #[derive(Drop)]
 pub struct Tags {
     pairs: Vec<(String, String)>,
@@ -38,8 +39,8 @@ pub(crate) fn count_chars(text: &str) -> usize
     text.chars().count()
 }
 
-/// Pairs of a key and a value as somebody wrote them, in any order and of any length; `are_tags` tells whether they are
-/// tags.
+/// Pairs of a key and a value as a caller gave them, in any order and of any length. `are_tags` returns whether they
+/// are valid tags.
 #[derive(Drop)]
 pub struct TagList {
     pairs: Vec<(String, String)>,
@@ -102,7 +103,7 @@ fn is_before(tag: &(String, String), other: &(String, String)) -> bool
     tag.0.as_str() < other.0.as_str()
 }
 
-// How many tags come before one.
+// How many of the tags come before this one.
 fn place_of(kept: &[(String, String)], tag: &(String, String)) -> usize
     ensures place { result ≡ prefix_len (λ other. is_tag_before (tag_of other) (tag_of tag.now)) kept.now }
     ensures within { result ≤ length kept.now }
@@ -147,7 +148,7 @@ fn copies(pairs: &Vec<(String, String)>) -> Result<Vec<(String, String)>, AllocE
     Ok(copies)
 }
 
-// The pairs are tags.
+// The pairs are valid tags.
 #[tactic(auto, unfolding(crate::specs::Tags::are_tags))]
 fn is_valid(pairs: &[(String, String)]) -> bool
     ensures { result ≡ are_tags (tags_of pairs.now) }
@@ -164,12 +165,12 @@ fn is_valid(pairs: &[(String, String)]) -> bool
 impl Tags {
     /// Reads tags from pairs in any order, and keeps them in the byte order of their keys.
     ///
-    /// Cost: a pass over the pairs for each pair, and memory for the list.
+    /// Cost: a pass over the pairs for each pair; memory for the list.
     ///
     /// # Errors
     ///
-    /// `BadTags`: there are more than 10, a key is repeated, a key has not 1 to 128 characters, or a value has more
-    /// than 256.
+    /// `BadTags`: there are more than 10, a key is repeated, a key does not have 1 to 128 characters, or a value has
+    /// more than 256.
     /// `NoMemory`: memory ran out.
     pub fn read(alloc: Global, pairs: Vec<(String, String)>) -> Result<Tags, NameRefusal>
         ensures ok { IfOk result (λ tags. (tags ≡ by_key (tags_of pairs.items)) × AreTags tags) }
@@ -185,7 +186,7 @@ impl Tags {
         }
     }
 
-    /// Copies the tags. Fails only for want of memory.
+    /// Copies the tags. Fails only if memory runs out.
     pub fn copy(&self) -> Result<Tags, AllocError>
         ensures { IfOk result (λ tags. tags ≡ self.now) }
     {
@@ -217,7 +218,7 @@ impl TagList {
         &self.pairs
     }
 
-    /// Tells whether there is no pair.
+    /// Returns whether there is no pair.
     #[tactic(auto, using(crate::proofs::InOrder::length_tags))]
     pub fn is_empty(&self) -> bool
         ensures { result ≡ (length self.now == 0) }
@@ -225,14 +226,14 @@ impl TagList {
         self.pairs.is_empty()
     }
 
-    /// Tells whether `Tags::read` would take the pairs. Takes no memory.
+    /// Returns whether `Tags::read` would take the pairs. Takes no memory.
     pub fn are_tags(&self) -> bool
         ensures { result ≡ are_tags self.now }
     {
         is_valid(&self.pairs)
     }
 
-    /// Copies the pairs. Fails only for want of memory.
+    /// Copies the pairs. Fails only if memory runs out.
     pub fn copy(&self) -> Result<TagList, AllocError>
         ensures { IfOk result (λ tags. tags ≡ self.now) }
     {
@@ -241,8 +242,8 @@ impl TagList {
     }
 }
 
-/// States what the order of tags is: the same tags, with keys that rise where they differ; and tags whose keys rise
-/// stay as they stand.
+/// States what the order of tags is: the same tags, with ascending keys if the keys differ. Tags whose keys already
+/// ascend keep their order.
 #[tactic(auto, using(crate::proofs::InOrder::order_of_tags))]
 pub fn tag_order()
     ensures same { (tags : List Tag) → IsPermutation tags (by_key tags) }

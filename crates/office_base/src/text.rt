@@ -7,7 +7,7 @@ use crate::tags::count_chars;
 use std::alloc::{AllocError, Global};
 use std::marker::Model;
 
-/// A text in a value that is compared as a whole: contracts see its bytes, and not where they lie.
+/// A text in a value that is compared as a whole: contracts see its bytes, not its address.
 #[derive(Drop)]
 pub struct Text {
     text: String,
@@ -52,7 +52,7 @@ impl Text {
         count_chars(self.as_str())
     }
 
-    /// Copies the text. Fails only for want of memory.
+    /// Copies the text. Fails only if memory runs out.
     pub fn copy(&self) -> Result<Text, AllocError>
         ensures { IfOk result (λ text. text ≡ self.now) }
     {

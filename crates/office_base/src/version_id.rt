@@ -25,7 +25,7 @@ impl Model for Nth {
 }
 
 impl Nth {
-    /// Gives the number; None for 0. Takes no memory.
+    /// Gives the version number with this value; None for 0. Takes no memory.
     pub fn of(number: u64) -> Option<Nth>
         ensures some { IfSome result (λ n. (n ≡ number) × (0 < number)) }
         ensures none { IfNone result (number ≡ 0) }
@@ -75,7 +75,7 @@ impl VersionId {
     }
 }
 
-// The number that a text writes in digits without a leading zero, from 1 on.
+// The number that a text writes in digits without a leading zero; at least 1.
 fn number_of(text: &str) -> Option<Nth>
     ensures found { IfSome result (λ n. IsVersionId (Number n) × (text.now ≡ decimal n)) }
     ensures none { IfNone result ((n : ℕ) → IsVersionId (Number n) → text.now ≢ decimal n) }
