@@ -1,4 +1,4 @@
--- Storage classes: their names, their order, the moves between them and how long objects stay at least.
+-- Storage classes: their names, their order, the moves between them and their minimum storage durations.
 use Rattle.std.specs.Prelude.{ℕ, ◌*◌, Bool, false, List, [], ◌∷◌, nat_lt, codes, Option}
 use Rattle.std.specs.List.{find}
 use Rattle.std.specs.Str.{bytes_eq}
@@ -6,7 +6,7 @@ use Rattle.moments.specs.Time.{day}
 use Rattle.class_rules.specs.declared.class.Class.{Class}
 use Rattle.class_rules.specs.declared.class.Class.TheVariants.{Standard, StandardIa, OnezoneIa, GlacierIr, Glacier, DeepArchive}
 
--- warmest first (S3 User Guide, "Understanding and managing Amazon S3 storage classes")
+-- all classes, warmest first (S3 User Guide, "Understanding and managing Amazon S3 storage classes")
 abbrev pub all_classes : List Class
 all_classes = Standard ∷ StandardIa ∷ OnezoneIa ∷ GlacierIr ∷ Glacier ∷ DeepArchive ∷ []
 
@@ -38,7 +38,8 @@ abbrev pub may_move : Class → Class → Bool
 may_move OnezoneIa GlacierIr = false
 may_move from to = nat_lt (rank_of from) (rank_of to)
 
--- the least duration in days (S3 User Guide, "Understanding and managing Amazon S3 storage classes"), 0 for none
+-- the minimum storage duration in days (S3 User Guide, "Understanding and managing Amazon S3 storage classes"); 0 for
+-- none
 abbrev pub least_days : Class → ℕ
 least_days Standard = 0
 least_days StandardIa = 30
@@ -47,6 +48,6 @@ least_days GlacierIr = 90
 least_days Glacier = 90
 least_days DeepArchive = 180
 
--- the least duration in milliseconds
+-- the minimum storage duration in milliseconds
 abbrev pub least_stay : Class → ℕ
 least_stay class = least_days class * day

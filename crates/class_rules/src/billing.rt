@@ -1,19 +1,19 @@
-// What is billed of an object, a delete marker and a part of an upload.
+// The billed bytes of an object, a delete marker and a part of an upload.
 ghost use Rattle.std.specs.Prelude.{◌≡◌, ◌≤◌, [], ◌∷◌};
 ghost use Rattle.office_base.specs.Sizes.{largest_size};
 ghost use Rattle.class_rules.specs.Lines.{lines_of, object_lines, marker_line, part_line};
 
 use crate::Class;
 
-/// The least size that is billed in STANDARD_IA, ONEZONE_IA and GLACIER_IR, in bytes (S3 User Guide, "Understanding and
+/// The minimum billed size in STANDARD_IA, ONEZONE_IA and GLACIER_IR, in bytes (S3 User Guide, "Understanding and
 /// managing Amazon S3 storage classes").
 const LEAST_BILLED: u64 = 131_072;
 
-/// The index and name that an archived object carries, in bytes at its own class (S3 User Guide, "Understanding S3
-/// Glacier storage classes for long-term data storage").
+/// The index of an archived object, in bytes billed at its own class (S3 User Guide, "Understanding S3 Glacier storage
+/// classes for long-term data storage").
 const INDEX_BYTES: u64 = 32_768;
 
-/// The name and metadata of an archived object, in bytes at STANDARD (the same page).
+/// The name and metadata of an archived object, in bytes billed at STANDARD (the same page).
 const NAME_BYTES: u64 = 8_192;
 
 /// What is billed of one object, delete marker or part.
@@ -29,8 +29,8 @@ pub struct Lines {
 
 /// Gives the lines of an object of this many bytes. Takes no memory.
 ///
-/// Rule: S3 User Guide, "Understanding and managing Amazon S3 storage classes" (least sizes) and "Understanding S3
-/// Glacier storage classes for long-term data storage" (what an archived object carries).
+/// Rule: S3 User Guide, "Understanding and managing Amazon S3 storage classes" (minimum sizes) and "Understanding S3
+/// Glacier storage classes for long-term data storage" (what an archived object has in addition).
 pub fn billed(class: Class, size: u64) -> Lines
     requires { size ≤ largest_size }
     ensures { lines_of result ≡ object_lines class size }
@@ -61,7 +61,7 @@ pub fn marker_lines(key_bytes: u64) -> Lines
 /// Gives the line of a part of this many bytes of an unfinished upload. Takes no memory.
 ///
 /// Rule: S3 User Guide, "Multipart upload and pricing": a part for GLACIER or DEEP_ARCHIVE is billed at STANDARD. Own
-/// rule: a part has no least size.
+/// rule: a part has no minimum size.
 pub fn part_lines(class: Class, size: u64) -> Lines
     ensures { lines_of result ≡ part_line class size }
 {
@@ -71,7 +71,7 @@ pub fn part_lines(class: Class, size: u64) -> Lines
     }
 }
 
-// The one line of what has no second.
+// A single line, with no second one.
 fn alone(class: Class, bytes: u64) -> Lines
     ensures { lines_of result ≡ (class, bytes) ∷ [] }
 {

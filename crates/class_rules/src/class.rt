@@ -2,16 +2,16 @@
 ghost use Rattle.std.specs.Prelude.{◌≡◌};
 ghost use Rattle.class_rules.specs.Classes.{class_name, class_with, rank_of, may_move, least_stay};
 
-/// A storage class, the warmest first.
+/// A storage class, from the warmest to the coldest.
 ///
 /// Rule: S3 User Guide, "Understanding and managing Amazon S3 storage classes".
 #[derive(Clone, Copy, Debug, PartialEq, Eq)]
 pub enum Class {
     /// For data that is read often.
     Standard,
-    /// For data that is read seldom.
+    /// For data that is rarely read.
     StandardIa,
-    /// For data that is read seldom and can be made again: it is kept in one zone.
+    /// For data that is rarely read and can be made again: it is kept in one zone.
     OnezoneIa,
     /// The archive that is read at once.
     GlacierIr,
@@ -70,7 +70,7 @@ pub fn rank(class: Class) -> u8
     }
 }
 
-/// Tells whether a lifecycle transition may go from one class to the other: to a colder one. Takes no memory.
+/// Returns whether a lifecycle transition may go from one class to the other: only to a colder one. Takes no memory.
 ///
 /// Rule: S3 User Guide, "Transitioning objects using Amazon S3 Lifecycle". Own rule: the move from ONEZONE_IA to
 /// GLACIER_IR is left out.
@@ -83,7 +83,7 @@ pub fn may_go(from: Class, to: Class) -> bool
     }
 }
 
-/// Gives the least duration that an object is billed for in a class, in milliseconds; 0 for none. Takes no memory.
+/// Gives the minimum storage duration of a class, in milliseconds; 0 for none. Takes no memory.
 ///
 /// Rule: S3 User Guide, "Understanding and managing Amazon S3 storage classes".
 pub fn least_duration(class: Class) -> u64
@@ -98,7 +98,7 @@ pub fn least_duration(class: Class) -> u64
     days * DAY_MS
 }
 
-/// States that a name is that of one class.
+/// States that no two classes have the same name.
 #[tactic(auto, using(crate::proofs::Names::same_class))]
 pub fn names_differ()
     ensures same { (a b : Class) → class_name a ≡ class_name b → a ≡ b }
