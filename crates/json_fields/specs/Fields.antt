@@ -7,8 +7,8 @@ use Rattle.serde_json.specs.Data.{Data, Members, no_members, member}
 use Rattle.serde_json.specs.Read.{read}
 use Rattle.serde_json.specs.Find.{as_object, as_number, as_u64}
 
--- the value of a text in UTF-8 (RFC 8259, "Character Encoding"); an object has each name once, in the order of the
--- names' bytes, with the value that stands last (own; RFC 8259, "Objects", leaves the choice open)
+-- the value of a text in UTF-8 (RFC 8259, "Character Encoding"). An object has each name once, in the byte order of the
+-- names, with the last of its values (own; RFC 8259, "Objects", leaves the choice open).
 unfoldable pub json_of : List ℕ → Option Data
 json_of text = if is_utf8 text then read text else None
 
@@ -17,7 +17,7 @@ abbrev pub names_of : Members → List (List ℕ)
 names_of no_members = []
 names_of (member name value ms) = name ∷ names_of ms
 
--- the first field, in the order of the names' bytes, that is none of these
+-- the first field, in the byte order of the names, whose name is not one of these
 abbrev pub first_unknown : List (List ℕ) → Data → Option (List ℕ)
 first_unknown known body =
     option_and_then (λ ms. find (λ name. not (is_among known name)) (names_of ms)) (as_object body)

@@ -1,4 +1,4 @@
-// The fields of an object that are not expected.
+// Unexpected fields of an object.
 ghost use Rattle.std.specs.Prelude.{◌≡◌, not, option_map, map, string_bytes};
 ghost use Rattle.std.specs.List.{find, list_any};
 ghost use Rattle.std.specs.Str.{bytes_eq};
@@ -40,8 +40,8 @@ fn first_other<'m>(members: &'m Map<String, Value>, known: &[&str]) -> Option<&'
     }
 }
 
-/// Finds the first field of an object, in the order of the names' bytes, whose name is none of these; None where there
-/// is none, or the value is no object. Names are compared unescaped, byte by byte. Takes no memory.
+/// Finds the first field of an object, in the byte order of the names, whose name is not one of these. None if there is
+/// no such field, or the value is not an object. Names are compared unescaped, byte by byte. Takes no memory.
 pub fn first_unknown<'v>(value: &'v Value, known: &[&str]) -> Option<&'v str>
     ensures { option_map (λ name. name.now) result ≡ first_unknown (map (λ k. k.now) known.now) (view value.now) }
 {

@@ -1,4 +1,4 @@
-//! The value of a JSON text, and the fields of an object that are not expected.
+//! The value of a JSON text, and the unexpected fields of an object.
 #![tactic(auto)]
 
 mod fields;

@@ -6,8 +6,8 @@ ghost use Rattle.json_fields.specs.Fields.{json_of};
 use serde_json::Value;
 use std::alloc::{AllocError, Global};
 
-/// Reads the value of a JSON text in UTF-8; None where serde_json reads none. Of a name that stands twice in an object
-/// the last value counts.
+/// Reads the value of a JSON text in UTF-8; None if serde_json reads no value. If a name is twice in an object, the
+/// last value counts.
 ///
 /// Rule: RFC 8259.
 ///
