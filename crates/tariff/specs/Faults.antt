@@ -1,4 +1,4 @@
--- What the reading of a tariff gives: its prices, or the first fault.
+-- What reading a tariff gives: its prices, or the first fault.
 use Rattle.std.specs.Prelude.{ℕ, List, Option, Some, None, Result, string_bytes}
 use Rattle.office_base.specs.Results.{GivesBy}
 use Rattle.class_rules.specs.declared.class.Class.{Class}
@@ -6,7 +6,7 @@ use Rattle.tariff.specs.declared.fault.TariffTable.{TariffTable}
 use Rattle.tariff.specs.declared.fault.TariffFault.{TariffFault}
 use Rattle.tariff.specs.declared.fault.TariffFault.TheVariants.{NotToml, MissingClass, BadPrice, UnknownField, BadTiers, BadFrom, NoMemory}
 
--- the faults of a text, with names as bytes
+-- the faults of a text; names are bytes
 pub data TariffFlaw : Type 0 where
   not_toml : TariffFlaw
   missing_class : TariffTable → Class → TariffFlaw
@@ -15,7 +15,7 @@ pub data TariffFlaw : Type 0 where
   bad_tiers : Class → TariffFlaw
   bad_from : TariffFlaw
 
--- the flaw that a fault tells of; none where memory ran out
+-- the flaw that a fault reports; none if memory ran out
 abbrev pub tariff_flaw_of : TariffFault → Option TariffFlaw
 tariff_flaw_of NotToml = Some not_toml
 tariff_flaw_of (MissingClass table class) = Some (missing_class table class)

@@ -5,7 +5,7 @@ use crate::prices::Tariff;
 use std::alloc::{AllocError, Global};
 use std::marker::Model;
 
-/// A tariff on the heap. It is eight bytes where a `Tariff` is some 630, so what may hold a tariff stays small.
+/// A tariff on the heap. It takes 8 bytes, a `Tariff` some 630, so a type that may have a tariff stays small.
 #[derive(Drop)]
 pub struct BoxedTariff {
     inner: Box<Tariff>,
@@ -20,7 +20,7 @@ impl Model for BoxedTariff {
 }
 
 impl BoxedTariff {
-    /// Puts a tariff on the heap. Fails only for want of memory.
+    /// Puts a tariff on the heap. Fails only if memory runs out.
     pub fn new(alloc: Global, tariff: Tariff) -> Result<BoxedTariff, AllocError>
         ensures { IfOk result (λ boxed. boxed ≡ tariff) }
     {
@@ -36,7 +36,7 @@ impl BoxedTariff {
         &self.inner
     }
 
-    /// Copies it. Fails only for want of memory.
+    /// Copies the tariff. Fails only if memory runs out.
     pub fn copy(&self) -> Result<BoxedTariff, AllocError>
         ensures { IfOk result (λ boxed. boxed ≡ self.now) }
     {

@@ -21,7 +21,7 @@ fn unit_of(month: Month) -> u128
     GIB * (end - begin) as u128
 }
 
-// The charge of so many whole units and a rest.
+// The charge of a quantity of whole units and a rest below one unit.
 fn charge_through(tiers: &[Tier], whole: u128, rest: u128, unit: u128) -> u128
     requires rise { rise_from 0 tiers.now ≡ true }
     requires whole_fits { whole < 2 ^ 68 }
@@ -34,7 +34,7 @@ fn charge_through(tiers: &[Tier], whole: u128, rest: u128, unit: u128) -> u128
     for tier in tiers {
         let price = tier.price as u128;
         match tier.upto {
-            // All of the tier is taken up: whole units.
+            // The quantity fills the tier: whole units.
             Some(upto) if upto as u128 <= whole => {
                 charge += (upto as u128 - begin) * price;
                 begin = upto as u128;
@@ -45,12 +45,12 @@ fn charge_through(tiers: &[Tier], whole: u128, rest: u128, unit: u128) -> u128
     charge
 }
 
-/// Gives the charge of a month's quantity in byte-milliseconds, through the tiers of its class: the whole part of the
-/// exact amount. Takes no memory.
+/// Gives the charge of a month's quantity of byte-milliseconds, through the tiers of its class: the exact amount,
+/// rounded down. Takes no memory.
 ///
 /// A GiB-month is 2^30 bytes for the whole month (S3 User Guide, "Understanding your AWS billing and usage reports for
-/// Amazon S3"). Own rules: the quantity goes through the tiers in order, from the first on; no amount is rounded up.
-/// Cost: one pass over the tiers. As they end at whole GiB-months, no product is above 2^128, whatever the quantity is.
+/// Amazon S3"). Own rules: the quantity fills the tiers in order, from the first; an amount is never rounded up. Cost:
+/// one pass over the tiers. Tiers end at whole GiB-months, so no product is above 2^128, for any quantity.
 #[tactic(auto, using(crate::proofs::TierLemmas::few_units, crate::proofs::TierLemmas::put_together))]
 pub fn charge(byte_ms: u128, tiers: &Tiers, month: Month) -> u128
     ensures { result ≡ charge_of byte_ms tiers.now month }
@@ -59,7 +59,7 @@ pub fn charge(byte_ms: u128, tiers: &Tiers, month: Month) -> u128
     charge_through(tiers.list(), byte_ms / unit, byte_ms % unit, unit)
 }
 
-/// Gives the charge of moves to a class, at a price for 1,000: the whole part of the exact amount. Takes no memory.
+/// Gives the charge of moves to a class, at a price per 1,000: the exact amount, rounded down. Takes no memory.
 pub fn move_charge(moves: u64, price: u32) -> u128
     ensures { result ≡ move_charge_of moves price }
 {
@@ -73,8 +73,8 @@ pub fn a_charge_is_the_whole_part()
         → IsCharge quantity tiers month (charge_of quantity tiers month) }
 {}
 
-/// States that nothing of a quantity is left out and nothing is charged twice: its parts are the quantity together. With
-/// one tier the amount is the quantity times the price.
+/// States that no part of a quantity is left out or charged twice: the sum of its parts is the quantity. With one tier
+/// the amount is the quantity times the price.
 pub fn the_tiers_share_a_quantity()
     ensures shared { (quantity : ℕ) (tiers : List Tier) (month : ℕ) → are_tiers tiers ≡ true
         → sum_by (λ part. part.0) (parts_of quantity tiers month) ≡ quantity }

@@ -1,4 +1,4 @@
-// What is wrong with a text as a tariff.
+// What is wrong with a text that should be a tariff.
 ghost use Rattle.std.specs.Prelude.{◌≡◌, Err};
 ghost use Rattle.tariff.specs.Faults.{TariffGives, unknown_field};
 ghost use Rattle.tariff.specs.Reading.{table_name};
@@ -9,14 +9,14 @@ use std::alloc::Global;
 /// A table of a tariff.
 #[derive(Clone, Copy, Debug, PartialEq, Eq)]
 pub enum TariffTable {
-    /// The prices of a GiB that is stored for a month, for each of the six classes.
+    /// The prices of a GiB stored for a month, for each of the six classes.
     Storage,
     /// The prices of 1,000 moves to a class, for each class but STANDARD.
     Transition,
 }
 
 impl TariffTable {
-    /// Gives the name that a document has for the table: `storage` or `transition`. Takes no memory.
+    /// Gives the name of the table in a document: `storage` or `transition`. Takes no memory.
     pub fn name(self) -> &'static str
         ensures { result.now ≡ table_name self }
     {
@@ -27,38 +27,38 @@ impl TariffTable {
     }
 }
 
-/// Why a text says no tariff.
+/// Why a text is not a tariff.
 #[derive(PartialEq, Debug, Drop)]
 pub enum TariffFault {
-    /// 70: the bytes are no TOML document.
+    /// 70: the bytes are not a TOML document.
     NotToml,
-    /// 71: a table has no price for a class. A table that is missing is empty.
+    /// 71: a table has no price for a class. A missing table is empty.
     MissingClass {
         /// The table.
         table: TariffTable,
         /// The first such class, from the warmest on.
         class: Class,
     },
-    /// 72: what a table has for a class is no whole number from 0 to `MOST_PRICE`, or one of its tiers has such a price.
+    /// 72: the value for a class is not a whole number from 0 to `MOST_PRICE`, or one of its tiers has such a price.
     BadPrice {
         /// The table.
         table: TariffTable,
         /// The first such class, from the warmest on.
         class: Class,
     },
-    /// 73: the document has a field that is none of the two tables and not `from`, or a table has a name that is none of
-    /// its classes.
+    /// 73: the document has a field other than the two tables and `from`, or a table has a name other than those of its
+    /// classes.
     UnknownField {
-        /// The first such name, in the order of the names' bytes.
+        /// The first such name, in the byte order of the names.
         name: String,
     },
-    /// 74: what `storage` has for a class is a list, but not of one to eight tables with a price and, but for the last,
-    /// an end that is a whole number of GiB-months above the one before it.
+    /// 74: the value for a class in `storage` is a list, but not of one to eight tables with valid fields. Each has a
+    /// price. Each but the last has an end: a whole number of GiB-months above the end before it.
     BadTiers {
         /// The first such class, from the warmest on.
         class: Class,
     },
-    /// 75: the first month is no text `YYYY-MM` from 1970-01 to 2099-12.
+    /// 75: the first month is not a text `YYYY-MM` from 1970-01 to 2099-12.
     BadFrom,
     /// Memory ran out.
     NoMemory,

@@ -1,4 +1,4 @@
-//! What storage costs: the prices of each class, in tiers, from a month on, and the charge of a month's quantities.
+//! What storage costs: the prices of each class, in tiers and from a month on, and the charge of a month's quantities.
 #![tactic(auto)]
 
 mod boxed;

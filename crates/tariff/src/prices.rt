@@ -14,11 +14,11 @@ pub const MOST_PRICE: u32 = 1_048_576;
 /// The prices of the storage classes, in whole units, each at most `MOST_PRICE`.
 #[derive(Clone, Copy, Debug, PartialEq, Eq)]
 pub struct Tariff {
-    /// The first month in which the tariff holds.
+    /// The first month of the tariff.
     pub from: Month,
-    /// For a GiB that is stored for a month, by rank from STANDARD on.
+    /// Per GiB stored for a month, by rank from STANDARD on.
     pub storage: [Tiers; 6],
-    /// For 1,000 moves to a class, by rank from STANDARD_IA on.
+    /// Per 1,000 moves to a class, by rank from STANDARD_IA on.
     pub transition: [u32; 5],
 }
 
@@ -36,7 +36,7 @@ impl Model for Tariff {
     ghost inverse = { λ t. record { from = t.from; storage = t.storage; transition = t.transition } };
 }
 
-// A tier for each of these prices.
+// A single tier for each of these prices.
 fn flat_tiers(prices: &[u32; 6]) -> Option<[Tiers; 6]>
     ensures some { IfSome result (λ tiers. (tiers ≡ map one_tier prices.now) × (list_all is_price prices.now ≡ true)) }
     ensures none { IfNone result (list_all is_price prices.now ≡ false) }
@@ -51,7 +51,7 @@ fn flat_tiers(prices: &[u32; 6]) -> Option<[Tiers; 6]>
 }
 
 impl Tariff {
-    /// Gives the tariff of these prices from January 1970 on, each for any quantity; None where one is above
+    /// Gives the tariff of these prices from January 1970 on, each for any quantity; None if a price is above
     /// `MOST_PRICE`. Takes no memory.
     pub fn of(storage: [u32; 6], transition: [u32; 5]) -> Option<Tariff>
         ensures some { IfSome result (λ tariff.
@@ -77,7 +77,7 @@ impl Tariff {
         &self.storage[rank(class) as usize]
     }
 
-    /// Reads the price of 1,000 moves to a class: 0 for STANDARD, to which none goes.
+    /// Reads the price of 1,000 moves to a class; 0 for STANDARD, to which nothing moves.
     pub fn move_price(&self, class: Class) -> u32
         ensures { result ≡ move_price self.now class }
     {

@@ -20,7 +20,7 @@ use moments::{Month, read_month};
 use std::alloc::Global;
 use toml::{Table, Value};
 
-/// The classes that are stored in, from the warmest on.
+/// The classes of the `storage` table, from the warmest on.
 const STORED_IN: [Class; 6] = [
     Class::Standard,
     Class::StandardIa,
@@ -31,27 +31,26 @@ const STORED_IN: [Class; 6] = [
 ];
 
 impl Tariff {
-    /// Reads a tariff from a TOML document with the tables `storage`, which has a price for the name of each class, and
-    /// `transition`, which has one for each but STANDARD: a price of a GiB that is stored for a month, and of 1,000
-    /// moves to the class, in whole units. In `storage` a class may have a list of tiers in place of a price, as
-    /// `[{ upto = 50, price = 23 }, { price = 22 }]`, the ends in GiB-months. The field `from` is the first month in
-    /// which the tariff holds, as `"2024-01"`.
+    /// Reads a tariff from a TOML document with two tables. `storage` has for each class a price per GiB stored for a
+    /// month, and `transition` for each class but STANDARD a price per 1,000 moves to it. Prices are in whole units. In
+    /// `storage` a class may have a list of tiers in place of a price, as `[{ upto = 50, price = 23 }, { price = 22
+    /// }]`, with the ends in GiB-months. The field `from` is the first month of the tariff, as `"2024-01"`.
     ///
-    /// Rule: TOML v1.1.0. Own rules: the names and the order of the faults; a table that is missing is empty; without
-    /// `from` the tariff holds from January 1970 on; a price is an integer, not `1.0`; a document nests at most 80 deep
-    /// and has integers of 64 bits.
-    /// Cost: one pass over the bytes, and memory for their values.
+    /// Rule: TOML v1.1.0. Own rules: the names and the order of the faults; a missing table is empty; without `from`
+    /// the first month is January 1970; a price is an integer, not `1.0`. A document nests at most 80 deep and has
+    /// integers of 64 bits.
+    /// Cost: one pass over the bytes; memory for their values.
     ///
     /// # Errors
     ///
-    /// The first of these that is so. `NotToml` (70): the bytes are no TOML document. `UnknownField` (73): the document
-    /// has another field than the three, or one of the two tables is none (the first in the order of their bytes).
-    /// `BadFrom` (75): `from` is no text `YYYY-MM` from 1970-01 to 2099-12. `UnknownField` again: a table has a name
-    /// that is none of its classes (`storage` first, in the order of the names' bytes). Then, for `storage` and then
-    /// `transition`, class by class from the warmest on: `MissingClass` (71): the table has nothing for the class;
-    /// `BadTiers` (74): what `storage` has for it is a list, but not of one to eight tables with a `price` and, but for
-    /// the last, an `upto` that is a whole number from 1 to 2^32 - 1 above the one before it; `BadPrice` (72): a price is
-    /// no whole number from 0 to `MOST_PRICE`. `NoMemory`: memory ran out.
+    /// Reports the first of these faults. `NotToml` (70): the bytes are not a TOML document. `UnknownField` (73): the
+    /// document has another field than the three, or one of the two tables is not a table (the first in byte order).
+    /// `BadFrom` (75): `from` is not a text `YYYY-MM` from 1970-01 to 2099-12. `UnknownField` again: a table has a name
+    /// that is not that of one of its classes (`storage` first, in the byte order of the names). Then, for `storage`
+    /// and then `transition`, class by class from the warmest on: `MissingClass` (71): the table has nothing for the
+    /// class. `BadTiers` (74): the value in `storage` is a list, but not of one to eight tables with a `price` and,
+    /// except for the last, an `upto`. Each `upto` is a whole number from 1 to 2^32 - 1 above the one before it.
+    /// `BadPrice` (72): a price is not a whole number from 0 to `MOST_PRICE`. `NoMemory`: memory ran out.
     #[tactic(auto, unfolding(crate::specs::Reading::tariff_of), using(crate::proofs::PriceLemmas::prices_range))]
     pub fn read(alloc: Global, bytes: &[u8]) -> Result<Tariff, TariffFault>
         ensures exact { TariffGives (λ tariff. tariff) result (tariff_of bytes.now) }
@@ -90,14 +89,14 @@ fn read_document(alloc: Global, bytes: &[u8]) -> Result<Table, TariffFault>
     }
 }
 
-// What a table has at a name.
+// The value of a name in a table.
 fn found<'m>(members: &'m Table, name: &str) -> Option<&'m Value>
     ensures { option_map (λ value. view value.now) result ≡ get_member name.now (table_view members.now) }
 {
     members.get(name)
 }
 
-// What a table of the document has; this where the table is missing.
+// The members of a table of the document; `empty` if the table is missing.
 fn members<'d>(document: &'d Table, table: TariffTable, empty: &'d Table) -> &'d Table
     ensures { table_view result.now
         ≡ unwrap_or (option_and_then as_table (get_member (table_name table) (table_view document.now)))
@@ -129,7 +128,7 @@ fn other_field(document: &Table) -> Option<&str>
     None
 }
 
-// Refuses a field that is none of the two tables and not the first month.
+// Refuses a field other than the two tables and the first month.
 fn check_fields(alloc: Global, document: &Table) -> Result<(), TariffFault>
     ensures { TariffGives (λ _. table_view document.now) result (with_fields (table_view document.now)) }
 {
@@ -166,7 +165,7 @@ fn read_from(document: &Table) -> Result<Month, TariffFault>
 }
 
 impl TariffTable {
-    // The classes that the table has a price for, from the warmest on.
+    // The classes for which the table has a price, from the warmest on.
     fn classes(self) -> &'static [Class]
         ensures { result.now ≡ classes_of self }
     {
@@ -194,7 +193,7 @@ fn other_name<'m>(table: TariffTable, members: &'m Table) -> Option<&'m str>
     None
 }
 
-// Refuses a name that is none of the table's classes.
+// Refuses a name other than those of the table's classes.
 fn check_classes(alloc: Global, table: TariffTable, members: &Table) -> Result<(), TariffFault>
     ensures { TariffGives (λ _. table_view members.now) result (with_classes table (table_view members.now)) }
 {
@@ -233,7 +232,7 @@ fn read_price(table: TariffTable, members: &Table, class: Class) -> Result<u32, 
     }
 }
 
-// Reads the prices that a table has for its classes, into a place for each.
+// Reads the prices of a table's classes into `prices`.
 fn read_prices(table: TariffTable, members: &Table, prices: &mut [u32]) -> Result<(), TariffFault>
     requires { length prices.old ≡ length (classes_of table) }
     ensures { TariffGives (λ _. prices.new) result
@@ -261,7 +260,7 @@ fn upto_of(value: &Value) -> Option<u32>
     }
 }
 
-// The end of a tier, which may be missing.
+// The optional end of a tier; None if the value is invalid.
 fn end_said(value: Option<&Value>) -> Option<Option<u32>>
     ensures { result ≡ end_said (option_map (λ value. view value.now) value.entry) }
 {
@@ -274,7 +273,7 @@ fn end_said(value: Option<&Value>) -> Option<Option<u32>>
     }
 }
 
-// A tier by what is said of it.
+// A tier, given its price and its optional end.
 fn tier_by(price: Option<&Value>, end: Option<Option<u32>>) -> Option<Tier>
     ensures { result ≡ tier_by (option_map (λ value. view value.now) price.entry) end }
 {
@@ -318,7 +317,7 @@ fn tier_said(element: &Value) -> Option<Tier>
     }
 }
 
-// The tiers that a list says, whatever their ends and prices.
+// The tiers that a list says; their ends and prices are not checked yet.
 fn tiers_said(alloc: Global, class: Class, elements: &[Value]) -> Result<Vec<Tier>, TariffFault>
     ensures { TariffGives (λ tiers. tiers.items) result (tiers_said class (items_view elements.now)) }
 {
@@ -334,7 +333,7 @@ fn tiers_said(alloc: Global, class: Class, elements: &[Value]) -> Result<Vec<Tie
     Ok(tiers)
 }
 
-// The tiers of a class, if they are.
+// The tiers of a class, if they are valid.
 fn in_range(class: Class, tiers: Vec<Tier>) -> Result<Tiers, TariffFault>
     ensures { TariffGives (λ tiers. tiers) result (in_range class tiers.items) }
 {
@@ -376,7 +375,7 @@ fn tiers_of(alloc: Global, class: Class, value: &Value) -> Result<Tiers, TariffF
     }
 }
 
-// The tiers that the table of storage has for a class.
+// The tiers that the storage table has for a class.
 fn read_tiers(alloc: Global, members: &Table, class: Class) -> Result<Tiers, TariffFault>
     ensures { TariffGives (λ tiers. tiers) result (tiers_in (table_view members.now) class) }
 {
@@ -389,7 +388,7 @@ fn read_tiers(alloc: Global, members: &Table, class: Class) -> Result<Tiers, Tar
     }
 }
 
-// Reads the tiers that the table of storage has for each class.
+// Reads the tiers that the storage table has for each class.
 fn read_storage(alloc: Global, members: &Table) -> Result<[Tiers; 6], TariffFault>
     ensures { TariffGives (λ tiers. tiers) result
         (each_of (tiers_in (table_view members.now)) (classes_of TariffTable.Storage)) }

@@ -5,19 +5,19 @@ ghost use Rattle.tariff.specs.Prices.{is_price, are_priced, have_ends, are_tiers
 use crate::prices::MOST_PRICE;
 use std::marker::Model;
 
-/// A price of storage, and up to where it is asked.
+/// A price of storage, and the quantity up to which it is charged.
 #[derive(Clone, Copy, Debug, PartialEq, Eq)]
 pub struct Tier {
     /// Where the tier ends, in GiB-months; None for the last tier of a class, which has no end.
     pub upto: Option<u32>,
-    /// For a GiB that is stored for a month, in whole units.
+    /// Per GiB stored for a month, in whole units.
     pub price: u32,
 }
 
 /// The most tiers of a class.
 pub const MOST_TIERS: usize = 8;
 
-// What stands behind the last tier.
+// The filler after the last tier.
 const NO_TIER: Tier = Tier {
     upto: None,
     price: 0,
@@ -26,7 +26,7 @@ const NO_TIER: Tier = Tier {
 /// The tiers of a class, in order: one to eight, each price at most `MOST_PRICE`, each end above the one before it.
 #[derive(Clone, Copy, Debug, PartialEq, Eq)]
 pub struct Tiers {
-    // Behind the tiers, `NO_TIER`.
+    // Filled with `NO_TIER` after the tiers.
     room: [Tier; 8],
     count: u8,
 }
@@ -48,7 +48,7 @@ impl Model for Tiers {
     ghost inverse_ok = { room_again };
 }
 
-// The ends of tiers rise, from 1 on, and the last tier has none.
+// The ends of tiers ascend, from 1 on, and the last tier has none.
 fn rise(tiers: &[Tier]) -> bool
     ensures { result ≡ rise_from 0 tiers.now }
 {
@@ -67,7 +67,7 @@ fn rise(tiers: &[Tier]) -> bool
     false
 }
 
-// There are one to eight, and their ends rise.
+// There are one to eight tiers, and their ends ascend.
 pub(crate) fn have_ends(tiers: &[Tier]) -> bool
     ensures { result ≡ have_ends tiers.now }
 {
@@ -81,7 +81,7 @@ fn are_priced(tiers: &[Tier]) -> bool
 }
 
 impl Tiers {
-    /// Gives these tiers as those of a class, as `of` does. Takes no memory.
+    /// Makes the tiers of a class, as `of` does, from a slice. Takes no memory.
     pub fn from_slice(tiers: &[Tier]) -> Option<Tiers>
         ensures some { IfSome result (λ kept. (kept ≡ tiers.now) × (are_tiers tiers.now ≡ true)) }
         ensures none { IfNone result (are_tiers tiers.now ≡ false) }
@@ -97,9 +97,8 @@ impl Tiers {
         })
     }
 
-    /// Gives these tiers as those of a class; None where there are none or more than eight, a price is above
-    /// `MOST_PRICE`, an end is not above the one before it or above 0, the last one has an end, or another has none.
-    /// Takes no memory.
+    /// Makes the tiers of a class. None if there are not one to eight, a price is above `MOST_PRICE`, an end is 0 or
+    /// not above the one before it, the last one has an end, or another one has none. Takes no memory.
     pub fn of(tiers: Vec<Tier>) -> Option<Tiers>
         ensures some { IfSome result (λ kept. (kept ≡ tiers.items) × (are_tiers tiers.items ≡ true)) }
         ensures none { IfNone result (are_tiers tiers.items ≡ false) }
@@ -107,7 +106,7 @@ impl Tiers {
         Tiers::from_slice(&tiers)
     }
 
-    /// Gives one tier for any quantity; None where the price is above `MOST_PRICE`. Takes no memory.
+    /// Makes a single tier for any quantity; None if the price is above `MOST_PRICE`. Takes no memory.
     pub fn one(price: u32) -> Option<Tiers>
         ensures some { IfSome result (λ kept. (kept ≡ one_tier price) × (is_price price ≡ true)) }
         ensures none { IfNone result (is_price price ≡ false) }
