@@ -18,8 +18,9 @@ use Rattle.due_core.specs.declared.action.Candidate.{Candidate}
 abbrev pub enabled_rules : Configuration → List (ℕ × Rule)
 enabled_rules rules = filter (λ numbered. numbered.1.enabled) (enumerate_from 1 rules.rules)
 
--- the actions on one target by one rule: what is not due before the end of time is left out, and no action stands
--- before the moment at which its stack or upload, or the bucket's rules or versioning, changed last (own)
+-- the candidates that one rule gives for one target. An action that is not due before the end of time is left out
+-- (own). An action takes effect no earlier than the last change of its stack or upload, or of the bucket's rules or
+-- versioning (own).
 abbrev pub timely : List ℕ → Target → ℕ → ℕ → ℕ → List DueAction → List Candidate
 timely key target rule age not_before asked =
     map (λ due. record {
@@ -38,7 +39,7 @@ stack_candidates bucket rules (key, stack) = flat_map of_version (placed_from 0 
       (version_actions bucket.versioning rules.mode stack.changed numbered.1 placed))
       (filter (λ numbered. matches_version numbered.1.filter key placed.version) (enabled_rules rules))
 
--- the actions on an upload, which a rule matches by its prefix (S3 User Guide, "Configuring a bucket lifecycle
+-- the actions on an upload; a rule matches it by its prefix (S3 User Guide, "Configuring a bucket lifecycle
 -- configuration to delete incomplete multipart uploads")
 abbrev pub upload_candidates : BucketRecord → Configuration → ℕ × UploadRecord → List Candidate
 upload_candidates bucket rules (number, upload) = flat_map
@@ -46,17 +47,17 @@ upload_candidates bucket rules (number, upload) = flat_map
     (upload_actions numbered.1 upload))
     (filter (λ numbered. matches_upload numbered.1.filter upload.key) (enabled_rules rules))
 
--- the eligible actions in a bucket under this configuration, and none without one
+-- the eligible actions in a bucket under this configuration; none without one
 abbrev pub eligible_by : BucketRecord → Option Configuration → List Candidate
 eligible_by bucket None = []
 eligible_by bucket (Some rules) =
     flat_map (stack_candidates bucket rules) bucket.stacks ++ flat_map (upload_candidates bucket rules) bucket.uploads
 
--- every version and upload, every enabled rule that matches it, every action of that rule (S3 User Guide, "Managing
--- the lifecycle of objects")
+-- the eligible actions in a bucket: for every version and upload, every action of every enabled rule that matches it
+-- (S3 User Guide, "Managing the lifecycle of objects")
 unfoldable pub eligible : BucketRecord → List Candidate
 eligible bucket = eligible_by bucket bucket.rules
 
--- those whose moment has come
+-- the eligible actions whose moment is t or earlier
 unfoldable pub candidates : BucketRecord → ℕ → List Candidate
 candidates bucket t = filter (λ candidate. nat_le candidate.action.since t) (eligible bucket)

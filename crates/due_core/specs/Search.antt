@@ -1,4 +1,4 @@
--- How the candidates are searched in one pass: what is kept so far, with the next one looked at.
+-- How one pass searches the candidates: what is kept so far, and the next candidate.
 use Rattle.std.specs.Prelude.{ℕ, ◌-◌, ◌==◌, ◌++◌, max, List, [], ◌∷◌, fold, flat_map, nat_lt, nat_le, Option, Some, None, if◌then◌else◌}
 use Rattle.std.specs.List.{enumerate_from}
 use Rattle.moments.specs.Time.{end_of_time}
@@ -19,42 +19,43 @@ use Rattle.due_core.specs.declared.action.Candidate.{Candidate}
 use Rattle.due_core.specs.declared.asked.Held.{Held}
 use Rattle.due_core.specs.declared.asked.Setting.{Setting}
 
--- the earlier one of the first so far and the next
+-- the earlier of the first candidate so far and the next one
 abbrev pub sooner : Option Candidate → Candidate → Candidate
 sooner None next = next
 sooner (Some best) next = if comes_before next best then next else best
 
--- what is kept of the candidates whose moment has come: the first so far, or all where they are wanted
+-- what is kept of the candidates whose moment has come: the first so far, or all of them
 pub record Findings : Type 0 where
   pub first : Option Candidate
   pub all : Option (List Candidate)
 
--- nothing yet, where the first is wanted
+-- nothing found yet, in a search for the first
 abbrev pub nothing_found : Findings
 nothing_found = record { first = None; all = None }
 
--- nothing yet, where all are wanted
+-- nothing found yet, in a search for all
 abbrev pub none_of_all : Findings
 none_of_all = record { first = None; all = Some [] }
 
--- what is kept with one more: all and it behind them where all are wanted, else the earlier one of it and the first
+-- what is kept with one more candidate: all with it at the end, or the earlier of it and the first
 abbrev pub took_by : Option Candidate → Option (List Candidate) → Candidate → Findings
 took_by first None next = record { first = Some (sooner first next); all = None }
 took_by first (Some all) next = record { first = first; all = Some (all ++ next ∷ []) }
 
--- one more is kept
+-- what is kept with one more candidate
 abbrev pub took : Findings → Candidate → Findings
 took kept next = took_by kept.first kept.all next
 
--- one whose moment has come is kept
+-- what is kept with one more candidate, which counts only if its moment has come
 abbrev pub with_come : ℕ → Findings → Candidate → Findings
 with_come t kept next = if nat_le next.action.since t then took kept next else kept
 
--- what is kept after these
+-- what is kept after these candidates
 abbrev pub with_each : ℕ → Findings → List Candidate → Findings
 with_each t kept candidates = fold (with_come t) kept candidates
 
--- a target and a rule that matches it, before which moment no action on it stands, and the moment of the search
+-- the aim of a search: a target, a rule that matches it, the moment before which no action on it takes effect, and the
+-- moment of the search
 pub record Aim : Type 0 where
   pub key : List ℕ
   pub target : Target
@@ -63,7 +64,7 @@ pub record Aim : Type 0 where
   pub not_before : ℕ
   pub t : ℕ
 
--- the candidate that an action makes: it stands at its due moment, but not before the moment that the aim names
+-- the candidate of an action: it takes effect when it is due, but not before the aim's moment
 abbrev pub aimed : Aim → DueAction → Candidate
 aimed aim due = record {
   action = record {
@@ -76,22 +77,22 @@ aimed aim due = record {
   age = aim.age;
 }
 
--- an action that the rule asks for is looked at, unless it is never due
+-- what is kept with one more action of the rule; an action that is never due does not count
 abbrev pub with_due : Aim → Findings → DueAction → Findings
 with_due aim kept due = if nat_lt due.1 end_of_time then with_come aim.t kept (aimed aim due) else kept
 
--- what is kept after what the rule asks for
+-- what is kept after these actions of the rule
 abbrev pub with_each_due : Aim → Findings → List DueAction → Findings
 with_each_due aim kept asked = fold (with_due aim) kept asked
 
 -- ---- the candidates in the order of the search: each version or upload, and each rule with its place from 1
 
--- what of a bucket and its configuration bears on a search at this moment
+-- what a search at this moment needs of a bucket and its configuration
 abbrev pub setting_of : BucketRecord → Configuration → ℕ → Setting
 setting_of bucket rules t =
     record { versioning = bucket.versioning; mode = rules.mode; rules_since = bucket.rules_since; t = t }
 
--- what a rule asks of an object with so many newer versions
+-- what a rule asks for an object with this many newer versions
 abbrev pub asked_of_object : Setting → Rule → Held → Version → ℕ → List DueAction
 asked_of_object setting rule object version newer =
     if newer == 0
@@ -99,7 +100,7 @@ asked_of_object setting rule object version newer =
     else noncurrent_removals rule (newer - 1) version.ceased
     ++ noncurrent_transitions setting.mode rule object.size object.class (newer - 1) version.ceased
 
--- what an enabled rule asks of a version that it matches, in a stack that changed last at this moment
+-- what a numbered rule asks for a version, if it is enabled and matches, in a stack that changed last at this moment
 abbrev pub asked_of_version : Setting → List ℕ → ℕ → Placed → ℕ × Rule → List Candidate
 asked_of_version setting key changed placed numbered =
     if numbered.1.enabled
@@ -110,17 +111,17 @@ asked_of_version setting key changed placed numbered =
     )
     else []
 
--- what the enabled rules ask of a version, rule by rule
+-- what the enabled rules ask for a version, rule by rule
 abbrev pub version_candidates : Setting → List Rule → List ℕ → ℕ → Placed → List Candidate
 version_candidates setting rules key changed placed =
     flat_map (asked_of_version setting key changed placed) (enumerate_from 1 rules)
 
--- what the enabled rules ask of the versions of a key, from the newest on
+-- what the enabled rules ask for the versions of a key, from the newest on
 abbrev pub key_candidates : Setting → List Rule → List ℕ × StackRecord → List Candidate
 key_candidates setting rules (key, stack) =
     flat_map (version_candidates setting rules key stack.changed) (placed_from 0 stack.versions)
 
--- what an enabled rule asks of an upload that it matches
+-- what a numbered rule asks for an upload, if it is enabled and matches
 abbrev pub asked_of_upload : Setting → ℕ → UploadRecord → ℕ × Rule → List Candidate
 asked_of_upload setting number upload numbered =
     if numbered.1.enabled
@@ -131,7 +132,7 @@ asked_of_upload setting number upload numbered =
     )
     else []
 
--- what the enabled rules ask of an upload, rule by rule
+-- what the enabled rules ask for an upload, rule by rule
 abbrev pub number_candidates : Setting → List Rule → ℕ × UploadRecord → List Candidate
 number_candidates setting rules (number, upload) =
     flat_map (asked_of_upload setting number upload) (enumerate_from 1 rules)

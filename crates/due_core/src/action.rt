@@ -18,7 +18,7 @@ pub enum ActionKind {
     Abort,
 }
 
-/// What an action is done to.
+/// The target of an action.
 #[derive(Clone, Copy, Debug, PartialEq, Eq)]
 pub enum Target {
     /// The version of the action's key with this id.
@@ -36,11 +36,11 @@ pub struct Action {
     pub target: Target,
     /// The place of the rule in the bucket's configuration, from 1.
     pub rule: u32,
-    /// The moment at which the action stands, whenever it is done. Billing of its target changes or stops there.
+    /// The moment at which the action takes effect, whenever it is done. Billing of its target changes or ends there.
     pub since: Moment,
 }
 
-/// An action with what decides among those of the same moment, kind and key.
+/// An action, and what decides its order among those of the same moment, kind and key.
 #[derive(Drop)]
 pub struct Candidate {
     pub action: Action,

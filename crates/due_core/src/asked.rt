@@ -1,4 +1,4 @@
-// What one rule asks of one version or upload.
+// What one rule asks for one version or upload.
 ghost use Rattle.std.specs.Prelude.{◌≡◌, ◌∷◌, ◌-◌, ◌==◌, [], map, IfOk, if◌then◌else◌};
 ghost use Rattle.moments.specs.Time.{due, next_midnight};
 ghost use Rattle.due_core.specs.RuleActions.{expirations, expiring, expiration_actions, transition_actions};
@@ -17,7 +17,8 @@ use stacks::{Kind, Version, Versioning};
 use std::marker::Model;
 use uploads::Upload;
 
-/// A target and a rule that matches it, before which moment no action on it stands, and the moment of the search.
+/// A target, a rule that matches it, the moment before which no action on it takes effect, and the moment of the
+/// search.
 #[derive(Drop)]
 pub(crate) struct Aim<'a> {
     pub(crate) key: &'a Key,
@@ -43,7 +44,7 @@ impl<'a> Model for Aim<'a> {
     } };
 }
 
-/// What a rule's transitions ask about an object.
+/// What a rule's transitions need to know of an object.
 #[derive(Drop)]
 struct Held {
     size: Size,
@@ -59,7 +60,7 @@ impl Held {
     }
 }
 
-/// What of a bucket bears on what its rules ask.
+/// What the actions of a bucket's rules depend on.
 #[derive(Drop)]
 pub(crate) struct Setting {
     pub(crate) versioning: Versioning,
@@ -85,7 +86,7 @@ impl<'a> Model for Placed<'a> {
     ghost view = { λ p. record { version = p.version.now; newer = p.newer; older = p.older } };
 }
 
-// At least as many newer versions are there as the rule keeps.
+// There are at least as many newer versions as the rule keeps.
 fn keeps_newer(wanted: Option<u32>, newer: u64) -> bool
     ensures { result ≡ keeps_newer wanted newer }
 {
@@ -103,7 +104,7 @@ fn expiring(versioning: Versioning) -> ActionKind
 }
 
 impl<'a> Aim<'a> {
-    // Looks at an action that is due at a moment. It does not stand before its target or the rules changed.
+    // Looks at an action that is due at a moment. It takes effect no earlier than its target or the rules changed.
     fn at(&self, kept: &mut Findings<'a>, kind: ActionKind, due: Moment) -> Result<(), NoMemory>
         ensures { IfOk result (λ _. kept.new ≡ with_each_due self.now kept.old ((kind, due) ∷ [])) }
     {
@@ -123,7 +124,7 @@ impl<'a> Aim<'a> {
         kept.look(found, self.t)
     }
 
-    // Looks at an action that is due so many days after a moment.
+    // Looks at an action that is due this many days after a moment.
     fn in_days(
         &self,
         kept: &mut Findings<'a>,
@@ -139,7 +140,7 @@ impl<'a> Aim<'a> {
         }
     }
 
-    // Looks at an action that is due by days after the creation, or at a date.
+    // Looks at an action that is due days after the creation, or at a date.
     fn expiring(
         &self,
         kept: &mut Findings<'a>,
@@ -246,7 +247,7 @@ impl<'a> Aim<'a> {
         }
     }
 
-    // Looks at what ends a current object.
+    // Looks at what expires a current object.
     fn expiration(
         &self,
         kept: &mut Findings<'a>,
@@ -287,7 +288,7 @@ impl<'a> Aim<'a> {
         }
     }
 
-    // Looks at an action that is due at the midnight that is not before a moment.
+    // Looks at an action that is due at the first midnight that is not before a moment.
     fn at_midnight(
         &self,
         kept: &mut Findings<'a>,
@@ -302,7 +303,7 @@ impl<'a> Aim<'a> {
         }
     }
 
-    // Looks at all that a rule asks of an object with so many newer versions.
+    // Looks at all that a rule asks for an object with this many newer versions.
     fn object(
         &self,
         kept: &mut Findings<'a>,
@@ -324,7 +325,7 @@ impl<'a> Aim<'a> {
         self.noncurrent_moves(kept, setting.mode, rule, object, newer - 1, ceased)
     }
 
-    // Looks at all that a rule asks of a delete marker.
+    // Looks at all that a rule asks for a delete marker.
     fn marker(
         &self,
         kept: &mut Findings<'a>,
@@ -348,7 +349,7 @@ impl<'a> Aim<'a> {
         }
     }
 
-    /// Looks at all that a rule asks of a version.
+    /// Looks at all that a rule asks for a version.
     #[tactic(auto, unfolding(crate::specs::RuleActions::version_actions))]
     pub(crate) fn version(
         &self,
@@ -373,7 +374,7 @@ impl<'a> Aim<'a> {
         }
     }
 
-    /// Looks at what a rule asks of an upload.
+    /// Looks at what a rule asks for an upload.
     pub(crate) fn upload(
         &self,
         kept: &mut Findings<'a>,

@@ -1,4 +1,4 @@
-// What is kept of a bucket.
+// The records of a bucket.
 use moments::Moment;
 use office_base::Key;
 use rules_core::RuleSet;
@@ -11,9 +11,9 @@ use uploads::Upload;
 #[derive(Drop)]
 pub struct Bucket {
     pub versioning: Versioning,
-    /// The lifecycle configuration, where one was set.
+    /// The lifecycle configuration, if one was set.
     pub rules: Option<RuleSet>,
-    /// When the bucket was made, or its versioning or its rules were set or dropped last. No action stands before it.
+    /// When the bucket was made, or its versioning or rules were last changed. No action takes effect before it.
     pub rules_since: Moment,
     /// The versions of each key that has any.
     pub stacks: BTreeMap<Key, Stack>,

@@ -10,12 +10,12 @@ use office_base::NoMemory;
 use std::alloc::Global;
 use std::marker::Model;
 
-/// Of the candidates whose moment has come, the first or all.
+/// The first of the candidates whose moment has come, or all of them.
 #[derive(Drop)]
 pub(crate) struct Findings<'a> {
-    /// The first so far, where it alone is wanted.
+    /// The first so far, in a search for the first.
     first: Option<Found<'a>>,
-    /// All so far, where they are wanted.
+    /// All so far, in a search for all.
     all: Option<Vec<Found<'a>>>,
 }
 
@@ -29,7 +29,7 @@ impl<'a> Model for Findings<'a> {
 }
 
 impl<'a> Findings<'a> {
-    /// Keeps the first.
+    /// Starts a search for the first.
     pub(crate) fn first() -> Self
         ensures { result ≡ nothing_found }
     {
@@ -39,7 +39,7 @@ impl<'a> Findings<'a> {
         }
     }
 
-    /// Keeps all.
+    /// Starts a search for all.
     pub(crate) fn all(alloc: Global) -> Self
         ensures { result ≡ none_of_all }
     {
@@ -63,7 +63,7 @@ impl<'a> Findings<'a> {
         Ok(())
     }
 
-    /// Looks at the next candidate, which is kept if its moment has come.
+    /// Looks at the next candidate, and keeps it if its moment has come.
     pub(crate) fn look(&mut self, next: Found<'a>, t: Moment) -> Result<(), NoMemory>
         ensures { IfOk result (λ _. self.new ≡ with_come t self.old next.entry) }
     {
@@ -74,7 +74,7 @@ impl<'a> Findings<'a> {
         }
     }
 
-    /// Gives the action of the first.
+    /// Gives the action of the first candidate.
     pub(crate) fn action(&self) -> Result<Option<Action>, NoMemory>
         ensures { IfOk result (λ action. action ≡ option_map (λ found. found.action) self.now.first) }
     {
@@ -84,7 +84,7 @@ impl<'a> Findings<'a> {
         }
     }
 
-    /// Gives all, in the order in which they were looked at.
+    /// Gives all candidates, in the order in which they were looked at.
     pub(crate) fn into_all(self, alloc: Global) -> Vec<Found<'a>>
         ensures { result.items ≡ unwrap_or self.entry.all [] }
     {
@@ -95,7 +95,7 @@ impl<'a> Findings<'a> {
     }
 }
 
-// Puts candidates into the order in which they are done.
+// Sorts candidates into the order in which they are done.
 fn sort(found: &mut Vec<Found<'_>>) -> Result<(), NoMemory>
     ensures { IfOk result (λ _. IsInOrder found.old.items found.new.items) }
 {

@@ -1,4 +1,4 @@
-// The first of the candidates that were looked at.
+// A candidate, and which of two comes first.
 ghost use Rattle.std.specs.Prelude.{◌≡◌, IfOk};
 ghost use Rattle.due_core.specs.Choice.{kind_place, coldness, precedence, comes_before};
 ghost use Rattle.due_core.specs.Search.{sooner};
@@ -44,7 +44,7 @@ fn kind_place(kind: ActionKind) -> u8
     }
 }
 
-// How cold the target class is; 0 where there is none.
+// The rank of the class to which an action moves; 0 for other kinds.
 fn coldness(kind: ActionKind) -> u8
     ensures { result ≡ coldness kind }
 {
@@ -54,7 +54,7 @@ fn coldness(kind: ActionKind) -> u8
     }
 }
 
-/// Own rule: by the moment, the kind, the key, the older version or the lower upload, the colder class, the rule.
+/// Own rule: by moment, kind, key, older version or lower upload, colder class, and place of the rule.
 pub(crate) fn precedence(a: &Found<'_>, b: &Found<'_>) -> Ordering
     ensures { result ≡ precedence a.now b.now }
 {
@@ -80,7 +80,7 @@ fn comes_before(a: &Found<'_>, b: &Found<'_>) -> bool
     precedence(a, b).is_lt()
 }
 
-/// The earlier one of the first so far and the next.
+/// The earlier of the first candidate so far and the next one.
 pub(crate) fn sooner<'a>(best: Option<Found<'a>>, next: Found<'a>) -> Found<'a>
     ensures { result ≡ sooner best.entry next.entry }
 {
@@ -97,7 +97,7 @@ pub(crate) fn sooner<'a>(best: Option<Found<'a>>, next: Found<'a>) -> Found<'a>
 }
 
 impl<'a> Found<'a> {
-    /// Gives the action, with a key of its own. Fails only for want of memory.
+    /// Gives the action, with a key of its own. Fails only if memory runs out.
     pub(crate) fn action(&self) -> Result<Action, NoMemory>
         ensures { IfOk result (λ action. action ≡ self.now.action) }
     {

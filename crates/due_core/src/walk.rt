@@ -1,4 +1,4 @@
-// What the rules of a bucket ask of its versions and uploads.
+// What the rules of a bucket ask for its versions and uploads.
 ghost use Rattle.std.specs.Prelude.{◌≡◌, ◌≤◌, length, max, flat_map, None, Some, IfOk, IsOk};
 ghost use Rattle.due_core.specs.Candidates.{eligible, candidates};
 ghost use Rattle.due_core.specs.Choice.{choice, IsQueue};
@@ -32,7 +32,7 @@ fn matches_version(filter: &Filter, key: &Key, version: &Version) -> bool
     }
 }
 
-// Looks at what the rule with this number asks of a version.
+// Looks at what the rule with this number asks for a version.
 #[tactic(auto, using(crate::proofs::Pass::due_come))]
 fn rule_of_version<'a>(
     kept: &mut Findings<'a>,
@@ -60,7 +60,7 @@ fn rule_of_version<'a>(
     aim.version(kept, setting, rule, placed, changed)
 }
 
-// Looks at what the rule with this number asks of an upload.
+// Looks at what the rule with this number asks for an upload.
 #[tactic(auto, using(crate::proofs::Pass::due_come))]
 fn rule_of_upload<'a>(
     kept: &mut Findings<'a>,
@@ -87,7 +87,7 @@ fn rule_of_upload<'a>(
     aim.upload(kept, rule, upload)
 }
 
-// Looks at what the rules ask of a version.
+// Looks at what the rules ask for a version.
 fn version<'a>(
     kept: &mut Findings<'a>,
     setting: &Setting,
@@ -107,7 +107,7 @@ fn version<'a>(
     Ok(())
 }
 
-// Looks at what the rules ask of the versions of a key.
+// Looks at what the rules ask for the versions of a key.
 fn stack<'a>(
     kept: &mut Findings<'a>,
     setting: &Setting,
@@ -132,7 +132,7 @@ fn stack<'a>(
     Ok(())
 }
 
-// Looks at what the rules ask of an upload.
+// Looks at what the rules ask for an upload.
 fn upload<'a>(
     kept: &mut Findings<'a>,
     setting: &Setting,
@@ -151,7 +151,7 @@ fn upload<'a>(
     Ok(())
 }
 
-// Looks at what the rules ask of all versions.
+// Looks at what the rules ask for all versions.
 fn stacks<'a>(
     kept: &mut Findings<'a>,
     bucket: &'a Bucket,
@@ -168,7 +168,7 @@ fn stacks<'a>(
     Ok(())
 }
 
-// Looks at what the rules ask of all uploads.
+// Looks at what the rules ask for all uploads.
 fn uploads<'a>(
     kept: &mut Findings<'a>,
     bucket: &'a Bucket,
@@ -196,7 +196,7 @@ fn setting_of(bucket: &Bucket, rules: &RuleSet, t: Moment) -> Setting
     }
 }
 
-// Looks at all that the rules of a bucket ask.
+// Looks at all actions that the rules of a bucket ask for.
 #[tactic(auto, using(crate::proofs::RuleCount::few_rules))]
 fn look<'a>(
     kept: &mut Findings<'a>,
@@ -238,10 +238,10 @@ fn all<'a>(
     queue(alloc, kept.into_all(alloc))
 }
 
-/// Finds the lifecycle action that the bucket's next run at a moment does; None where none has come.
+/// Finds the lifecycle action that the bucket's next run at a moment does; None if none has come.
 ///
 /// Rule: S3 User Guide, "Managing the lifecycle of objects". Own rule: which comes first.
-/// Cost: one pass over the versions and uploads, with the rules for each. Takes memory for the action's key alone.
+/// Cost: one pass over the versions and uploads, with the rules for each. Takes memory only for the action's key.
 ///
 /// # Errors
 ///
@@ -258,10 +258,9 @@ pub fn chosen(bucket: &Bucket, t: Moment) -> Result<Option<Action>, NoMemory>
 
 /// Lists the lifecycle actions that have come at a moment, in the order in which runs of the bucket's rules do them.
 ///
-/// What a run does may end others of the list, as the removal of a version ends its transitions.
-/// Rule: S3 User Guide, "Managing the lifecycle of objects". Own rule: the order.
-/// Cost: one pass over the versions and uploads, with the rules for each, and a sort. Takes memory for the list and
-/// for each action's key.
+/// A run may end other actions of the list: the removal of a version ends its transitions. Rule: S3 User Guide,
+/// "Managing the lifecycle of objects". Own rule: the order. Cost: one pass over the versions and uploads, with the
+/// rules for each, and a sort. Takes memory for the list and for each action's key.
 ///
 /// # Errors
 ///
@@ -270,7 +269,7 @@ pub fn chosen(bucket: &Bucket, t: Moment) -> Result<Option<Action>, NoMemory>
 pub fn candidates(alloc: Global, bucket: &Bucket, t: Moment) -> Result<Vec<Action>, NoMemory>
     ensures exact { IfOk result (λ actions. IsQueue (candidates bucket.now t) actions.items) }
 
-    // Where no rules were set it cannot fail.
+    // Without rules it cannot fail.
     ensures no_rules { bucket.now.rules ≡ None → IsOk result }
 {
     match &bucket.rules {
