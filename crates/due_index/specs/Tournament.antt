@@ -5,44 +5,45 @@ use Rattle.due_core.specs.declared.action.Candidate.{Candidate}
 use Rattle.due_index.specs.Queue.{slot_at}
 use Rattle.due_index.specs.declared.tournament.Node.{Node}
 
--- the moment and the kind of what stands in a slot, as one number; of an empty slot the greatest
+-- the moment and the kind of a slot's action, as one number; an empty slot has the greatest number
 abbrev pub order_of : Option Candidate → ℕ
 order_of None = 2 ^ 64 - 1
 order_of (Some candidate) = candidate.action.since * 4 + kind_place candidate.action.kind
 
--- the one stands before the other; an empty slot stands behind all others
+-- the first slot's action comes before the second's; an empty slot comes after all others
 abbrev pub is_sooner : Option Candidate → Option Candidate → Bool
 is_sooner None other = false
 is_sooner (Some candidate) None = true
 is_sooner (Some candidate) (Some other) = comes_before candidate other
 
--- what stands in the slot of a node
+-- the content of a node's slot
 abbrev pub won_by : List (Option Candidate) → Node → Option Candidate
 won_by slots node = slot_at node.slot slots
 
--- a node knows the order of what stands in its slot
+-- the node has the order of the content of its slot
 abbrev pub IsExact : List (Option Candidate) → Node → Type 0
 IsExact slots node = node.order ≡ order_of (won_by slots node)
 
--- what the other node has does not stand before what this one has
+-- the other node's action does not come before this one's
 abbrev pub IsNotAfter : List (Option Candidate) → Node → Node → Type 0
 IsNotAfter slots node other = is_sooner (won_by slots other) (won_by slots node) ≡ false
 
--- the node i has the first of what the nodes 2 i and 2 i + 1 have
+-- the action of node i is the first of those of the nodes 2 i and 2 i + 1
 abbrev pub IsWinner : List (Option Candidate) → List Node → ℕ → Type 0
 IsWinner slots nodes i = (d : Node) → IsNotAfter slots (slice_index_or nodes i d) (slice_index_or nodes (2 * i) d)
     × IsNotAfter slots (slice_index_or nodes i d) (slice_index_or nodes (2 * i + 1) d)
 
--- so many nodes above the node i
+-- the node that is this many levels above node i
 abbrev pub halved : ℕ → ℕ → ℕ
 halved zero i = i
 halved (suc m) i = halved m (i / 2)
 
--- the node k is this one, or stands above it
+-- node k is node i, or is above it
 abbrev pub IsOnPath : ℕ → ℕ → Type 0
 IsOnPath k i = (m : ℕ) × (k ≡ halved m i)
 
--- half of the nodes are leaves, one for each slot and for slots to come; the tree begins at the node 1
+-- the nodes are the tournament of the slots. Half of them are leaves: one for each slot, and spare ones. The root is
+-- node 1.
 pub record IsTournament (slots : List (Option Candidate)) (nodes : List Node) : Type 0 where
   pub half : ℕ
   pub size : length nodes ≡ 2 * half
@@ -52,7 +53,7 @@ pub record IsTournament (slots : List (Option Candidate)) (nodes : List Node) : 
   pub winners : (i : ℕ) → 1 ≤ i → i < half → IsWinner slots nodes i
   pub below : (i : ℕ) (d : Node) → 1 ≤ i → i < 2 * half → IsOnPath i (half + (slice_index_or nodes i d).slot)
 
--- the same, but for this node and the nodes above it
+-- the same, except for this node and the nodes above it
 pub record IsTournamentOff (slots : List (Option Candidate)) (nodes : List Node) (at : ℕ) : Type 0 where
   pub half : ℕ
   pub size : length nodes ≡ 2 * half
@@ -62,7 +63,7 @@ pub record IsTournamentOff (slots : List (Option Candidate)) (nodes : List Node)
   pub winners : (i : ℕ) → 1 ≤ i → i < half → (IsOnPath i at → ⊥) → IsWinner slots nodes i
   pub below : (i : ℕ) (d : Node) → 1 ≤ i → i < 2 * half → IsOnPath i (half + (slice_index_or nodes i d).slot)
 
--- half of the nodes are leaves, one for each slot and for slots to come
+-- half of the nodes are leaves: one for each slot, and spare ones
 pub record HasLeaves (slots : List (Option Candidate)) (nodes : List Node) (half : ℕ) : Type 0 where
   pub size : length nodes ≡ 2 * half
   pub leaves : (i : ℕ) (d : Node) → i < half → (slice_index_or nodes (half + i) d).slot ≡ i

@@ -1,4 +1,4 @@
-// What one rule asks of one version or upload.
+// What one rule asks for one version or upload.
 ghost use Rattle.std.specs.Prelude.{◌≡◌, ◌∷◌, ◌==◌, ℕ, List, [], map, max, if◌then◌else◌};
 ghost use Rattle.moments.specs.Time.{due, next_midnight};
 ghost use Rattle.due_core.specs.RuleActions.{expirations, expiring, expiration_actions, transition_actions};
@@ -20,7 +20,7 @@ use stacks::{Kind, Version, Versioning};
 use std::marker::Model;
 use uploads::Upload;
 
-/// A target and a rule that matches it, and the moment before which no action on it stands.
+/// A target, a rule that matches it, and the moment before which no action on it takes effect.
 #[derive(Drop)]
 pub(crate) struct Aim<'a> {
     pub(crate) key: &'a Key,
@@ -44,7 +44,7 @@ impl<'a> Model for Aim<'a> {
     } };
 }
 
-/// What a rule's transitions ask about an object.
+/// What a rule's transitions need to know of an object.
 #[derive(Drop)]
 struct Held {
     size: Size,
@@ -60,7 +60,7 @@ impl Held {
     }
 }
 
-/// What of a bucket bears on what its rules ask.
+/// What the actions of a bucket's rules depend on.
 #[derive(Clone, Copy)]
 pub(crate) struct Setting {
     pub(crate) versioning: Versioning,
@@ -101,7 +101,7 @@ pub(crate) fn matches_version(filter: &Filter, key: &Key, version: &Version) -> 
     }
 }
 
-// At least as many newer versions are there as the rule keeps.
+// There are at least as many newer versions as the rule keeps.
 pub(crate) fn keeps_newer(wanted: Option<u32>, newer: u64) -> bool
     ensures { result ≡ keeps_newer wanted newer }
 {
@@ -118,7 +118,7 @@ fn expiring(versioning: Versioning) -> ActionKind
     }
 }
 
-// The earlier one of the first so far and the next, which is on the same key.
+// The earlier of the first action so far and the next one, which is on the same key.
 fn sooner(best: Option<Place>, next: Place) -> Place
     ensures { (key : List ℕ) → candidate_of key result ≡ sooner (on_key key best) (candidate_of key next) }
 {
@@ -129,7 +129,7 @@ fn sooner(best: Option<Place>, next: Place) -> Place
 }
 
 impl<'a> Aim<'a> {
-    // Looks at an action that is due at a moment. It does not stand before its target or the rules changed.
+    // Looks at an action that is due at a moment. It takes effect no earlier than its target or the rules changed.
     fn at(&self, best: &mut Option<Place>, kind: ActionKind, due: Moment)
         ensures { on_key self.now.key best.new
             ≡ with_each_due self.now (on_key self.now.key best.old) ((kind, due) ∷ []) }
@@ -149,7 +149,7 @@ impl<'a> Aim<'a> {
         *best = Some(sooner(*best, next));
     }
 
-    // Looks at an action that is due so many days after a moment.
+    // Looks at an action that is due this many days after a moment.
     pub(crate) fn in_days(
         &self,
         best: &mut Option<Place>,
@@ -166,7 +166,7 @@ impl<'a> Aim<'a> {
         }
     }
 
-    // Looks at an action that is due by days after the creation, or at a date.
+    // Looks at an action that is due days after the creation, or at a date.
     fn expiring(
         &self,
         best: &mut Option<Place>,
@@ -230,7 +230,7 @@ impl<'a> Aim<'a> {
         }
     }
 
-    // Looks at what ends a current object.
+    // Looks at what expires a current object.
     fn expiration(
         &self,
         best: &mut Option<Place>,
@@ -263,7 +263,7 @@ impl<'a> Aim<'a> {
         }
     }
 
-    // Looks at an action that is due at the midnight that is not before a moment.
+    // Looks at an action that is due at the first midnight that is not before a moment.
     fn at_midnight(&self, best: &mut Option<Place>, kind: ActionKind, from: Moment)
         ensures { on_key self.now.key best.new
             ≡ with_each_due self.now (on_key self.now.key best.old) ((kind, next_midnight from) ∷ []) }
@@ -274,7 +274,7 @@ impl<'a> Aim<'a> {
         }
     }
 
-    // Looks at all that a rule asks of a current object.
+    // Looks at all that a rule asks for a current object.
     fn object(
         &self,
         best: &mut Option<Place>,
@@ -291,7 +291,7 @@ impl<'a> Aim<'a> {
         self.transitions(best, setting.mode, rule, object, created);
     }
 
-    // Looks at all that a rule asks of a delete marker that is current.
+    // Looks at all that a rule asks for a current delete marker.
     fn marker(
         &self,
         best: &mut Option<Place>,
@@ -309,7 +309,7 @@ impl<'a> Aim<'a> {
         } else {}
     }
 
-    /// Looks at all that a rule asks of a current version.
+    /// Looks at all that a rule asks for a current version.
     #[tactic(auto, unfolding(due_core::specs::RuleActions::version_actions))]
     pub(crate) fn current(
         &self,
@@ -337,7 +337,7 @@ impl<'a> Aim<'a> {
         }
     }
 
-    /// Looks at what a rule asks of an upload.
+    /// Looks at what a rule asks for an upload.
     pub(crate) fn upload(&self, best: &mut Option<Place>, rule: &Rule, upload: &Upload)
         ensures { on_key self.now.key best.new
             ≡ with_each_due self.now (on_key self.now.key best.old) (upload_actions rule.now upload.now) }

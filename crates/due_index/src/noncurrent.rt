@@ -1,4 +1,4 @@
-// What a rule asks of the noncurrent versions of a key, looked for from the oldest version on.
+// What a rule asks for the noncurrent versions of a key, searched from the oldest version on.
 ghost use Rattle.std.specs.Prelude.{◌≡◌, map, option_to_list};
 ghost use Rattle.due_core.specs.RuleActions.{matches_version, keeps_newer};
 ghost use Rattle.due_index.specs.Search.{on_key, with_each, IsFirstOf, IsOfStep, IsOfSteps, removal_step, move_step};
@@ -12,13 +12,13 @@ use office_base::Key;
 use rules_core::{Filter, Noncurrent, NoncurrentMove, Rule, SizeMode, size_admits};
 use stacks::{Kind, Stack, Version};
 
-/// A removal or a move that a rule asks of noncurrent versions.
+/// A removal or a move that a rule asks for noncurrent versions.
 #[derive(Clone, Copy)]
 pub(crate) struct Step {
     pub(crate) kind: ActionKind,
     /// How many newer noncurrent versions are kept.
     pub(crate) newer: Option<u32>,
-    /// So many days after the version became noncurrent.
+    /// This many days after the version became noncurrent.
     pub(crate) days: u32,
 }
 
@@ -42,7 +42,7 @@ fn move_step(step: NoncurrentMove) -> Step
     }
 }
 
-// A version may be moved to a class only where it is an object that the class admits.
+// The kind of step fits the version: a move needs an object that may move to the class.
 fn admits_step(mode: SizeMode, filter: &Filter, kind: ActionKind, of: &Kind) -> bool
     ensures { result ≡ admits_step mode filter.now kind of.now }
 {
@@ -57,7 +57,7 @@ fn admits_step(mode: SizeMode, filter: &Filter, kind: ActionKind, of: &Kind) -> 
     }
 }
 
-// The rule's filter matches the version, which may be moved so.
+// The rule's filter matches the version, and the kind of step fits it.
 fn takes_step(
     mode: SizeMode,
     filter: &Filter,
@@ -70,7 +70,7 @@ fn takes_step(
     matches_version(filter, key, version) && admits_step(mode, filter, kind, &version.kind)
 }
 
-// Looks at what a removal or a move asks of a noncurrent version, and tells whether it takes the version.
+// Looks at a removal or a move of one noncurrent version, and returns whether it applies to the version.
 #[tactic(auto, using(crate::proofs::Searching::due_come))]
 fn step_of_version(
     best: &mut Option<Place>,
@@ -100,8 +100,8 @@ fn step_of_version(
     true
 }
 
-// Looks for what a removal or a move asks of the noncurrent versions of a key. Where they ceased in order, the oldest
-// one that it takes comes first.
+// Searches a removal or a move for the noncurrent versions of a key. If they ceased in order, the oldest one to which
+// it applies comes first.
 fn step_of_key(
     best: &mut Option<Place>,
     setting: &Setting,
@@ -134,7 +134,7 @@ fn step_of_key(
     }
 }
 
-// Looks for the removal that the rule asks of the noncurrent versions of a key.
+// Searches the removal that the rule asks for the noncurrent versions of a key.
 fn removal(
     best: &mut Option<Place>,
     setting: &Setting,
@@ -162,7 +162,7 @@ fn removal(
     }
 }
 
-// Looks for the moves that the rule asks of the noncurrent versions of a key.
+// Searches the moves that the rule asks for the noncurrent versions of a key.
 fn moves(
     best: &mut Option<Place>,
     setting: &Setting,
@@ -180,7 +180,7 @@ fn moves(
     }
 }
 
-/// Looks for what the rule asks of the noncurrent versions of a key: its removal, and each of its moves.
+/// Searches what the rule asks for the noncurrent versions of a key: its removal, and each of its moves.
 pub(crate) fn noncurrent(
     best: &mut Option<Place>,
     setting: &Setting,

@@ -12,12 +12,12 @@ use std::marker::Model;
 
 /// The places of the enabled rules in their configuration, from 0, in the order of their prefixes.
 ///
-/// A prefix that begins a text does not stand behind it, and begins all that stands between. So from the last prefix
-/// that is not behind a text the parents lead to all that begin it.
+/// A prefix of a text is not above the text, and begins every text between the two. So from the last prefix that is not
+/// above a text, the parents lead to all prefixes of it.
 #[derive(Drop)]
 pub(crate) struct RuleTable {
     order: Vec<usize>,
-    // For each rule the place in the table, from 1, of the nearest one before it whose prefix begins its own; 0 where
+    // For each rule the place in the table, from 1, of the nearest rule before it whose prefix begins its own; 0 if
     // there is none.
     parents: Vec<usize>,
 }
@@ -40,7 +40,7 @@ fn prefix_at(rules: &[Rule], place: usize) -> &[u8]
     }
 }
 
-// Takes up the place of a rule, where the rule is enabled.
+// Adds the place of a rule, if the rule is enabled.
 fn take_up(order: &mut Vec<usize>, rule: &Rule, place: usize) -> Result<(), NoMemory>
     ensures { OnOk result (order.new.items
         ≡ (if rule.now.enabled then order.old.items ++ place ∷ [] else order.old.items)) }
@@ -72,7 +72,7 @@ fn compare(rules: &[Rule], a: usize, b: usize) -> Ordering
     prefix_at(rules, a).cmp(prefix_at(rules, b))
 }
 
-// Puts places of rules into the order of the prefixes.
+// Sorts places of rules by their prefixes.
 fn sort(rules: &[Rule], order: &mut Vec<usize>) -> Result<(), NoMemory>
     ensures same { IsPermutation order.old.items order.new.items }
     ensures by_prefix { OnOk result (IsByPrefix rules.now order.new.items) }
@@ -83,7 +83,7 @@ fn sort(rules: &[Rule], order: &mut Vec<usize>) -> Result<(), NoMemory>
     }
 }
 
-// Finds the nearest place below this one, from 1, at which the prefix begins the text; 0 where there is none.
+// Finds the nearest place up to this one, from 1, whose prefix begins the text; 0 if there is none.
 fn climb(rules: &[Rule], order: &[usize], parents: &[usize], from: usize, text: &[u8]) -> usize
     requires within { from ≤ length parents.now }
     requires size { length parents.now ≤ length order.now }
@@ -119,7 +119,7 @@ fn parents_of(alloc: Global, rules: &[Rule], order: &[usize]) -> Result<Vec<usiz
     Ok(parents)
 }
 
-// Finds up to which place the prefixes do not stand behind the text.
+// Finds the first place whose prefix is above the text; the length if there is none.
 fn last_before(rules: &[Rule], order: &[usize], text: &[u8]) -> usize
     requires { IsByPrefix rules.now order.now }
     ensures within { result ≤ length order.now }
@@ -154,7 +154,7 @@ impl RuleTable {
         Ok(RuleTable { order, parents })
     }
 
-    /// Finds up to which place, from 0, the prefixes do not stand behind a text.
+    /// Finds the first place, from 0, whose prefix is above a text; the length if there is none.
     pub(crate) fn start(&self, rules: &[Rule], text: &[u8]) -> usize
         requires { IsTable self.now rules.now }
         ensures within { result ≤ length self.now.order }
@@ -164,7 +164,7 @@ impl RuleTable {
         last_before(rules, &self.order, text)
     }
 
-    /// Reads the rule that stands at a place of the table.
+    /// Reads the rule at a place of the table.
     pub(crate) fn rule(&self, at: usize) -> usize
         requires { at < length self.now.order }
         ensures { result ≡ slice_index_or self.now.order at 0 }

@@ -11,8 +11,8 @@ use office_base::NoMemory;
 use std::alloc::{AllocError, Global};
 use std::cmp::Ordering;
 
-// The first action of the slots below: its moment and kind as one number, the greatest where there is none, and its
-// slot.
+// The slot of the first action of the slots below, and that action's moment and kind as one number; the greatest number
+// if there is no action.
 #[derive(Clone, Copy)]
 pub(crate) struct Node {
     pub(crate) order: u64,
@@ -29,7 +29,7 @@ fn order_of(held: Option<&Candidate>) -> u64
     }
 }
 
-// The one stands before the other, whose moment and kind are the same.
+// The first comes before the second; both have the same moment and kind.
 #[tactic(auto, using(crate::proofs::Orders::tied_orders))]
 fn comes_before(a: &Candidate, b: &Candidate) -> bool
     requires { order_of (Some a.now) ≡ order_of (Some b.now) }
@@ -46,7 +46,7 @@ fn comes_before(a: &Candidate, b: &Candidate) -> bool
         .is_lt()
 }
 
-// What stands in a slot.
+// The content of a slot.
 pub(crate) fn slot_at(slots: &[Option<Candidate>], slot: usize) -> Option<&Candidate>
     ensures { option_copied result ≡ slot_at slot slots.now }
 {
@@ -56,7 +56,7 @@ pub(crate) fn slot_at(slots: &[Option<Candidate>], slot: usize) -> Option<&Candi
     }
 }
 
-// The one stands before the other, whose order is the same.
+// The first comes before the second; both have the same order.
 fn is_sooner(a: Option<&Candidate>, b: Option<&Candidate>) -> bool
     requires { order_of (option_copied a) ≡ order_of (option_copied b) }
     ensures { result ≡ is_sooner (option_copied a.entry) (option_copied b.entry) }
@@ -81,7 +81,7 @@ fn leaf(slots: &[Option<Candidate>], slot: usize) -> Node
     }
 }
 
-// Of two nodes the one whose action comes first.
+// The one of two nodes whose action comes first.
 #[tactic(auto, using(crate::proofs::Orders::less_orders, crate::proofs::Orders::sooner_itself, crate::proofs::Orders::sooner_back))]
 fn earlier(slots: &[Option<Candidate>], a: Node, b: Node) -> Node
     requires a { IsExact slots.now a }
@@ -103,7 +103,7 @@ fn earlier(slots: &[Option<Candidate>], a: Node, b: Node) -> Node
     }
 }
 
-// Brings the nodes above a slot up to date, in which something else stands now.
+// Updates the nodes above a slot whose content has changed.
 pub(crate) fn rise(slots: &[Option<Candidate>], nodes: &mut [Node], slot: usize)
     requires slot { slot < length slots.now }
     requires below { IsTournamentOff slots.now nodes.old (length nodes.old / 2 + slot) }
@@ -117,7 +117,7 @@ pub(crate) fn rise(slots: &[Option<Candidate>], nodes: &mut [Node], slot: usize)
     }
 }
 
-// Makes the tournament, with so many leaves.
+// Makes the tournament, with this many leaves.
 pub(crate) fn tournament(
     alloc: Global,
     slots: &[Option<Candidate>],
