@@ -27,11 +27,11 @@ kind_of (command.Act bucket) = 0x0D
 kind_of (command.SetTariff tariff) = 0x0E
 kind_of (command.Close month) = 0x0F
 
--- two classes are one
+-- two classes are the same
 abbrev pub same_class : Class → Class → Bool
 same_class a b = rank_of a == rank_of b
 
--- two tags are one: the same key and the same value
+-- two tags are the same: equal keys and equal values
 abbrev pub same_tag : Tag → Tag → Bool
 same_tag a b = bytes_eq a.0 b.0 && bytes_eq a.1 b.1
 
@@ -39,13 +39,13 @@ same_tag a b = bytes_eq a.0 b.0 && bytes_eq a.1 b.1
 abbrev pub same_tags : List Tag → List Tag → Bool
 same_tags = pointwise same_tag
 
--- two versionings are one
+-- two booleans are the same
 abbrev pub same_flag : Bool → Bool → Bool
 same_flag true b = b
 same_flag false true = false
 same_flag false false = true
 
--- two commands that may carry a token are one: the same kind and the same fields
+-- two commands that may carry a token are the same: equal kinds and equal fields
 unfoldable pub same_command : Command → Command → Bool
 same_command (command.CreateBucket a) (command.CreateBucket b) = bytes_eq a b
 same_command (command.SetVersioning a on) (command.SetVersioning b up) = bytes_eq a b && same_flag on up

@@ -1,4 +1,4 @@
--- The reply to an accepted command, and what is kept of it.
+-- The reply to an accepted command, and what the office keeps of it.
 use Rattle.std.specs.Prelude.{ℕ, Bool, true, false, ◌==◌, length, Some, None, if◌then◌else◌}
 use Rattle.office_base.specs.declared.version_id.VersionId.{VersionId}
 use Rattle.office_base.specs.declared.version_id.VersionId.TheVariants.{Null, Number}
@@ -13,23 +13,23 @@ use Rattle.office_types.specs.declared.reply.Reply.TheVariants.{Closed}
 
 -- ---- ids as numbers
 
--- the null version as 0, every other id as its number
+-- the number of an id; 0 for the null version
 abbrev pub number_of_id : VersionId → ℕ
 number_of_id Null = 0
 number_of_id (Number n) = n
 
--- the id that such a number is
+-- the id of such a number
 abbrev pub id_of_number : ℕ → VersionId
 id_of_number n = if n == 0 then Null else Number n
 
--- ---- what a reply tells that does not follow from its command
+-- ---- the parts of a reply that do not follow from its command
 
--- whether it tells of a delete marker
+-- whether the reply has a delete marker
 abbrev pub tells_marker : Reply → Bool
 tells_marker (Deleted (Some version)) = true
 tells_marker other = false
 
--- the version, delete marker or upload that it tells of, and 0 where it tells of none
+-- the number of the version, delete marker or upload that the reply has; 0 if it has none
 abbrev pub number_told : Reply → ℕ
 number_told (Stored moment version) = number_of_id version
 number_told (Deleted (Some version)) = number_of_id version
@@ -38,9 +38,10 @@ number_told (UploadStarted upload) = upload
 number_told (Aborted upload) = upload
 number_told other = 0
 
--- ---- the reply that follows
+-- ---- the reply
 
--- the reply to a command that was accepted at the moment and told of this, where the command may carry a token
+-- the reply to a command that was accepted at moment t, given the two parts above; it is only used for commands that
+-- may carry a token
 unfoldable pub reply_told : ℕ → Bool → ℕ → Command → Reply
 reply_told t marker told (command.CreateBucket bucket) = BucketMade bucket
 reply_told t marker told (command.SetVersioning bucket enabled) =
@@ -58,6 +59,6 @@ reply_told t marker told (command.Abort bucket upload) = Aborted upload
 reply_told t marker told (command.Close month) = Closed month
 reply_told t marker told other = NothingDue
 
--- the reply that is kept
+-- the reply to a kept command
 abbrev pub reply_of : Kept → Reply
 reply_of kept = reply_told kept.moment kept.marker kept.told kept.command

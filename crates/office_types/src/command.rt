@@ -1,4 +1,4 @@
-// What the office is asked.
+// What clients ask the office.
 use crate::token::Token;
 use class_rules::Class;
 use moments::{Moment, Month};
@@ -6,7 +6,7 @@ use office_base::{BucketName, Key, Size, Tags, VersionId};
 use rules_core::RuleSet;
 use tariff::BoxedTariff;
 
-/// A change that the office is asked to make. A command that it accepts becomes an entry of the journal.
+/// A change that a client asks for. An accepted command becomes an entry of the journal.
 #[derive(Drop)]
 pub enum Command {
     /// Makes a bucket, without versions or rules.
@@ -18,7 +18,7 @@ pub enum Command {
         bucket: BucketName,
         enabled: bool,
     },
-    /// Sets a bucket's lifecycle configuration, in the place of the one that was there.
+    /// Sets a bucket's lifecycle configuration, and replaces the one before.
     SetRules {
         bucket: BucketName,
         rules: RuleSet,
@@ -27,7 +27,7 @@ pub enum Command {
     DropRules {
         bucket: BucketName,
     },
-    /// Puts an object under a key; where the bucket does not add versions, in the place of the null version.
+    /// Puts an object under a key; in a bucket that does not add versions it replaces the null version.
     Put {
         bucket: BucketName,
         key: Key,
@@ -60,14 +60,14 @@ pub enum Command {
         class: Class,
         tags: Tags,
     },
-    /// Puts a part of an upload, in the place of the one with its number. `size` is in bytes.
+    /// Puts a part of an upload, and replaces the one with the same number. `size` is in bytes.
     PutPart {
         bucket: BucketName,
         upload: u64,
         part: u32,
         size: u64,
     },
-    /// Makes an object of an upload's parts.
+    /// Makes an object of the parts of an upload.
     Complete {
         bucket: BucketName,
         upload: u64,
@@ -81,11 +81,11 @@ pub enum Command {
     Act {
         bucket: BucketName,
     },
-    /// Sets a tariff, in the place of the one with the same first month.
+    /// Sets a tariff, and replaces the one with the same first month.
     SetTariff {
         tariff: BoxedTariff,
     },
-    /// Closes a month: what was used in it and what that costs are settled.
+    /// Closes a month: its usage and costs are final.
     Close {
         month: Month,
     },
@@ -94,7 +94,7 @@ pub enum Command {
 /// A question that changes nothing.
 #[derive(Drop)]
 pub enum Query {
-    /// What a bucket holds.
+    /// The content of a bucket.
     Bucket(BucketName),
     /// A bucket's lifecycle configuration.
     Rules(BucketName),
@@ -106,18 +106,18 @@ pub enum Query {
     Due(BucketName),
     /// What a bucket used in a month, by class.
     Meters(BucketName, Month),
-    /// The tariffs that were set.
+    /// The tariffs.
     Tariff,
     /// What a month costs, by bucket and class.
     Report(Month),
 }
 
-/// What a message asks.
+/// What a request asks for.
 #[derive(Drop)]
 pub enum Ask {
     /// A change.
     Command(Command),
-    /// A change that is done once, however often it is asked with this token.
+    /// A change that is done once, however often it is requested with this token.
     Once { token: Token, command: Command },
     /// A question.
     Query(Query),
@@ -126,9 +126,9 @@ pub enum Ask {
 /// An accepted command, with the moment at which it was accepted.
 #[derive(Drop)]
 pub struct Entry {
-    /// The moment of the command, not before that of the entry before it.
+    /// The moment of the command; not before that of the entry before it.
     pub moment: Moment,
-    /// The token with which it was asked, if any.
+    /// The token of the request, if it had one.
     pub token: Option<Token>,
     pub command: Command,
 }

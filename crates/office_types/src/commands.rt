@@ -1,4 +1,4 @@
-// Commands compared and copied.
+// Comparing and copying commands.
 ghost use Rattle.std.specs.Prelude.{◌≡◌, ◌&&◌, true, List, IfOk};
 ghost use Rattle.std.specs.Str.{bytes_eq};
 ghost use Rattle.stacks.specs.Stacks.{same_id};
@@ -90,7 +90,7 @@ impl Command {
         }
     }
 
-    /// Tells whether the command may carry a token.
+    /// Returns whether the command may carry a token.
     pub fn takes_token(&self) -> bool
         ensures { result ≡ takes_token self.now }
     {
@@ -100,7 +100,7 @@ impl Command {
         )
     }
 
-    /// Tells whether two commands that may carry a token are the same; false where one may not.
+    /// Returns whether two commands that may carry a token are the same; false if one may not.
     ///
     /// Cost: one pass over the names, keys and tags.
     #[tactic(auto, unfolding(crate::specs::Commands::same_command))]
@@ -237,7 +237,7 @@ impl Command {
         }
     }
 
-    /// Copies the command. Fails only for want of memory.
+    /// Copies the command. Fails only if memory runs out.
     pub fn copy(&self) -> Result<Command, AllocError>
         ensures { IfOk result (λ command. command ≡ self.now) }
     {
@@ -330,8 +330,8 @@ impl Command {
     }
 }
 
-/// States that commands that compare as the same are the same, and that each command that may carry a token is the
-/// same as itself.
+/// States that commands that compare as the same are equal, and that each command that may carry a token compares as
+/// the same as itself.
 pub fn commands_that_are_the_same()
     ensures are { (a b : Command) → same_command a b ≡ true → a ≡ b }
     ensures itself { (c : Command) → takes_token c ≡ true → same_command c c ≡ true }

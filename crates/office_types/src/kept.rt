@@ -1,4 +1,4 @@
-// What is kept of a command that was accepted with a token.
+// What the office keeps of a command that was accepted with a token.
 ghost use Rattle.std.specs.Prelude.{◌≡◌, IfOk};
 ghost use Rattle.office_types.specs.Kept.{number_of_id, id_of_number, tells_marker, number_told, reply_of};
 
@@ -10,21 +10,21 @@ use office_base::{Nth, VersionId};
 use stacks::Versioning;
 use std::alloc::AllocError;
 
-/// A command that was accepted with a token, and what its reply tells that does not follow from the command.
+/// A command that was accepted with a token, and the parts of its reply that do not follow from the command.
 #[derive(Drop)]
 pub struct Kept {
     pub token: Token,
     /// The moment at which the command was accepted.
     pub moment: Moment,
-    /// The reply tells of a delete marker.
+    /// Whether the reply has a delete marker.
     pub marker: bool,
-    /// The number of the version, delete marker or upload that the reply tells of; 0 for the null version, and where it
-    /// tells of none.
+    /// The number of the version, delete marker or upload that the reply has; 0 for the null version, or if it has
+    /// none.
     pub told: u64,
     pub command: Command,
 }
 
-/// Tells whether a reply tells of a delete marker.
+/// Returns whether a reply has a delete marker.
 pub fn marker_told(reply: &Reply) -> bool
     ensures { result ≡ tells_marker reply.now }
 {
@@ -34,8 +34,8 @@ pub fn marker_told(reply: &Reply) -> bool
     }
 }
 
-/// Gives the number of the version, delete marker or upload that a reply tells of; 0 for the null version, and where it
-/// tells of none.
+/// Gives the number of the version, delete marker or upload that a reply has; 0 for the null version, or if it has
+/// none.
 pub fn number_told(reply: &Reply) -> u64
     ensures { result ≡ number_told reply.now }
 {
@@ -71,10 +71,10 @@ fn id_of_number(number: u64) -> VersionId
 }
 
 impl Kept {
-    /// Gives the reply again that the command got when it was accepted; `NothingDue` for a command that may not carry a
-    /// token. Fails only for want of memory.
+    /// Gives the reply that the command got when it was accepted; `NothingDue` for a command that may not carry a
+    /// token. Fails only if memory runs out.
     ///
-    /// Cost: a copy of the bucket's name, for `CreateBucket` alone.
+    /// Cost: for `CreateBucket` a copy of the bucket's name; else constant.
     #[tactic(auto, unfolding(crate::specs::Kept::reply_told))]
     pub fn reply(&self) -> Result<Reply, AllocError>
         ensures { IfOk result (λ reply. reply ≡ reply_of self.now) }

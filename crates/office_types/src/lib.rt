@@ -1,4 +1,4 @@
-//! What an office is asked, and what it answers.
+//! What clients ask the office, and what it replies.
 #![tactic(auto)]
 
 mod command;

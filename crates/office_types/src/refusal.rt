@@ -1,9 +1,9 @@
-// Why the office did not do what it was asked.
+// Why the office refused a request.
 use due_core::Target;
 use moments::Month;
 use office_base::{BucketName, Key};
 
-/// What the office holds a limited number of. Own rules: the limits keep every sum of the meters below 2^128.
+/// What the office limits. Own rules: the limits keep every sum of the meters below 2^128.
 #[derive(Clone, Copy, Debug, PartialEq, Eq)]
 pub enum What {
     /// 1,000 buckets.
@@ -22,7 +22,7 @@ pub enum What {
     Tariffs,
 }
 
-/// Why an ask was not done. The office is then as before.
+/// Why a request was not done. The office is then as before.
 #[derive(Drop)]
 pub enum Refusal {
     /// 80: there is a bucket of this name.
@@ -31,7 +31,7 @@ pub enum Refusal {
     NoSuchBucket,
     /// 82: the bucket has no lifecycle configuration.
     NoRules,
-    /// 83: versioning cannot be suspended where it was never enabled.
+    /// 83: versioning cannot be suspended, because it was never enabled.
     NotEnabledBefore,
     /// 50: the key has no versions.
     NoSuchKey,
@@ -41,23 +41,23 @@ pub enum Refusal {
     IsMarker,
     /// 60: the bucket has no upload with this number.
     NoSuchUpload,
-    /// 61: the part's number or size is out of range, or the parts together would be too large.
+    /// 61: the part's number or size is out of range, or the sum of the parts would be too large.
     BadPart,
     /// 62: the upload has no parts.
     NoParts,
-    /// 84: the month ends at this moment, in milliseconds, which has not come.
+    /// 84: the month is not over; it ends at this moment, in milliseconds.
     MonthNotOver {
         end: u64,
     },
-    /// 86: the month counts as closed.
+    /// 86: the month is already closed.
     AlreadyClosed,
     /// 87: this earlier month has to be closed first.
     EarlierMonthOpen {
         month: Month,
     },
-    /// 88: no tariff is in force in the month; or, where no month is asked for, none was set.
+    /// 88: no tariff is in force in the month; or, if the request has no month, no tariff was set.
     NoTariff,
-    /// 85: in this bucket a lifecycle action on this target stands before the month's end, and was not done.
+    /// 85: in this bucket a lifecycle action on this target takes effect before the month's end, and was not done.
     DueActions {
         bucket: BucketName,
         key: Key,
@@ -68,11 +68,11 @@ pub enum Refusal {
         what: What,
         limit: u64,
     },
-    /// 91: the ask's moment, in milliseconds, is not below the end of time. Only a desk answers this.
+    /// 91: the moment of the request, in milliseconds, is not before the end of time. Only a desk replies this.
     ClockEnd {
         moment: u64,
     },
-    /// 92: the token was used for another command, of this kind; its reply is kept.
+    /// 92: the token was used for another command, of this kind; the reply to that one is kept.
     TokenReused {
         kind: u8,
     },

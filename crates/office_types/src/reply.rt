@@ -1,4 +1,4 @@
-// What the office answers to an ask that was done.
+// What the office replies to a request that was done.
 use class_rules::Class;
 use due_core::{ActionKind, Target};
 use moments::{Moment, Month};
@@ -14,7 +14,7 @@ pub struct ClassMeters {
     pub class: Class,
     /// Bytes times milliseconds.
     pub byte_ms: u128,
-    /// Bytes times milliseconds that objects owe which left the class before its least duration.
+    /// Bytes times milliseconds that are charged for objects that left the class before its minimum storage duration.
     pub early_byte_ms: u128,
     /// The lifecycle transitions to the class.
     pub moves: u64,
@@ -25,18 +25,18 @@ pub struct ClassMeters {
 pub enum LineKind {
     /// What was stored.
     Storage,
-    /// What objects owe which left the class before its least duration.
+    /// Objects that left the class before its minimum storage duration.
     Early,
     /// The lifecycle transitions to the class.
     Transitions,
 }
 
-/// At what a line of a report is charged.
+/// The price of a line of a report.
 #[derive(Clone, Copy, Debug, PartialEq, Eq)]
 pub enum Price {
-    /// At one price: units for a GiB-month, or for 1,000 transitions.
+    /// One price: units per GiB-month, or per 1,000 transitions.
     One(u32),
-    /// At the prices of several tiers.
+    /// The prices of several tiers.
     Tiered,
 }
 
@@ -53,18 +53,18 @@ pub struct ReportLine {
     pub charge: u128,
 }
 
-/// The answer to an ask that was done.
+/// The reply to a request that was done.
 #[derive(Drop)]
 pub enum Reply {
     /// The bucket was made.
     BucketMade {
         bucket: BucketName,
     },
-    /// The bucket's versioning is this one now.
+    /// The bucket now has this versioning.
     VersioningSet {
         versioning: Versioning,
     },
-    /// The bucket has so many lifecycle rules now.
+    /// The bucket now has this many lifecycle rules.
     RulesSet {
         rules: u32,
     },
@@ -73,7 +73,7 @@ pub enum Reply {
         moment: Moment,
         version: VersionId,
     },
-    /// The key was deleted by this delete marker, or, where there is none, its null version was removed.
+    /// The key was deleted: this delete marker was put, or if there is none, the null version was removed.
     Deleted {
         marker: Option<VersionId>,
     },
@@ -81,7 +81,7 @@ pub enum Reply {
     VersionDeleted {
         removed: VersionId,
     },
-    /// The version has so many tags now.
+    /// The version now has this many tags.
     TagsSet {
         tags: u32,
     },
@@ -97,8 +97,8 @@ pub enum Reply {
     Aborted {
         upload: u64,
     },
-    /// This lifecycle action is the first that is due, or was done, by the rule with this id. `since` is the moment at
-    /// which it stands; `marker` is the delete marker that was put, where the action was done and puts one.
+    /// This lifecycle action, by the rule with this id, is the first that is due, or was done. It takes effect at
+    /// `since`. `marker` is the delete marker that it put; none if it was not done or puts none.
     Chosen {
         kind: ActionKind,
         key: Key,
@@ -115,7 +115,7 @@ pub enum Reply {
     Closed {
         month: Month,
     },
-    /// The bucket has so many rules, unfinished uploads, and versions with delete markers.
+    /// The bucket has this many rules, unfinished uploads, and versions (with delete markers).
     BucketShown {
         bucket: BucketName,
         rules: u32,

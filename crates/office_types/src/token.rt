@@ -12,8 +12,8 @@ use std::alloc::{AllocError, Global};
 use std::cmp::Ordering;
 use std::marker::Model;
 
-/// What a caller calls a command, so that the same command asked again acts once: 1 to 64 visible characters of ASCII.
-/// Tokens are compared by their bytes.
+/// A client's name for a command, so that the same command acts once if it is sent again: 1 to 64 visible ASCII
+/// characters. Tokens are compared by their bytes.
 ///
 /// Own rule.
 #[derive(Drop)]
@@ -55,8 +55,7 @@ fn in_range(bytes: &[u8]) -> bool
 }
 
 impl Token {
-    /// Reads a token from bytes; None where they are not 1 to 64 visible characters of ASCII. Fails only for want of
-    /// memory.
+    /// Reads a token from bytes; None if they are not 1 to 64 visible ASCII characters. Fails only if memory runs out.
     pub fn read(alloc: Global, bytes: &[u8]) -> Result<Option<Token>, NoMemory>
         ensures { IfOk result (λ token. MatchOption token (is_token bytes.now ≡ false)
             (λ read. (read ≡ bytes.now) × IsToken bytes.now)) }
@@ -70,7 +69,7 @@ impl Token {
         }
     }
 
-    /// Copies the token. Fails only for want of memory.
+    /// Copies the token. Fails only if memory runs out.
     pub fn copy(&self) -> Result<Token, AllocError>
         ensures { IfOk result (λ token. token ≡ self.now) }
     {
