@@ -1,4 +1,4 @@
-//! A CSV text that is written row by row.
+//! Writing a CSV text row by row.
 #![tactic(auto)]
 
 mod sheet;

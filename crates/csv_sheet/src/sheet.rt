@@ -19,11 +19,11 @@ pub fn start(alloc: Global) -> Sheet
     WriterBuilder::new().from_writer(Vec::new(alloc))
 }
 
-/// Writes a row. A field is put in quotation marks where it needs them.
+/// Writes a row. A field is put in quotation marks only if it needs them.
 ///
 /// # Errors
 ///
-/// Memory ran out. What of the row is then written is not said.
+/// Memory ran out. It is then unspecified how much of the row is written.
 pub fn put_row(sheet: &mut Sheet, fields: &[&[u8]]) -> Result<(), NoMemory>
     requires { IsAtRowStart sheet.old }
     ensures ready { OnOk result (IsAtRowStart sheet.new) }
