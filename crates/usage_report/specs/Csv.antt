@@ -11,7 +11,7 @@ use Rattle.usage_report.specs.Lines.{line_name, price_text}
 abbrev pub report_header : List (List ℕ)
 report_header = codes "bucket" ∷ codes "line" ∷ codes "class" ∷ codes "quantity" ∷ codes "price" ∷ codes "charge" ∷ []
 
--- a line of the report: what is charged of a bucket and a class, how much of it, at what, and the charge
+-- a line of the report: the bucket, what is charged, the class, the quantity, the price and the charge
 abbrev pub report_row : ReportLine → List (List ℕ)
 report_row line =
     line.bucket ∷ line_name line.kind ∷ class_name line.class
@@ -21,7 +21,7 @@ report_row line =
 abbrev pub total_row : ℕ → List (List ℕ)
 total_row total = [] ∷ codes "total" ∷ [] ∷ [] ∷ [] ∷ decimal total ∷ []
 
--- a row for each line, between the header and the total
+-- the header, a row for each line, and the total
 unfoldable pub report_csv : List ReportLine → List ℕ
 report_csv lines =
     flat_map (row_text default_writer) (report_header ∷ map report_row lines ++ total_row (charges lines) ∷ [])

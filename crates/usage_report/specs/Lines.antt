@@ -1,17 +1,17 @@
--- What the lines of a report have in common, in each form.
+-- What the lines of a report have in both forms, CSV and table.
 use Rattle.std.specs.Prelude.{ℕ, List, codes, decimal}
 use Rattle.office_types.specs.declared.reply.LineKind.{LineKind}
 use Rattle.office_types.specs.declared.reply.LineKind.TheVariants.{Storage, Early, Transitions}
 use Rattle.office_types.specs.declared.reply.Price.{Price}
 use Rattle.office_types.specs.declared.reply.Price.TheVariants.{One, Tiered}
 
--- how a kind of line is called (own)
+-- the name of a kind of line (own)
 abbrev pub line_name : LineKind → List ℕ
 line_name Storage = codes "storage"
 line_name Early = codes "early"
 line_name Transitions = codes "transitions"
 
--- one price as its digits; several have a word in their place (own)
+-- a single price as its digits; the prices of tiers as a word (own)
 abbrev pub price_text : Price → List ℕ
 price_text (One price) = decimal price
 price_text Tiered = codes "tiered"

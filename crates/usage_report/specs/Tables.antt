@@ -6,15 +6,15 @@ use Rattle.office_types.specs.declared.reply.ReportLine.{ReportLine}
 use Rattle.office_types.specs.Reports.{charges}
 use Rattle.usage_report.specs.Lines.{line_name}
 
--- a text at the left or at the right of a column of so many characters; a longer one stands as it is
+-- a text at the left of a column of this width; a longer text is unchanged
 abbrev pub left_aligned : ℕ → List ℕ → List ℕ
 left_aligned width text = text ++ replicate (width - length text) 32
 
--- numbers stand at the right, so that their last digits are below each other
+-- a text at the right of a column of this width; used for numbers, so that their last digits are aligned
 abbrev pub right_aligned : ℕ → List ℕ → List ℕ
 right_aligned width text = replicate (width - length text) 32 ++ text
 
--- the columns of a line, a space between two
+-- a line of five columns, with a space between two
 unfoldable pub table_line : List ℕ → List ℕ → List ℕ → List ℕ → ℕ → List ℕ
 table_line bucket kind class quantity charge =
     left_aligned 24 bucket ++ 32 ∷ left_aligned 12 kind ++ 32 ∷ left_aligned 14 class ++ 32 ∷ right_aligned 28 quantity

@@ -77,11 +77,10 @@ fn put_total(sheet: &mut Sheet, total: u128) -> Result<(), NoMemory>
 }
 
 /// Writes the lines of a report and their total as CSV (RFC 4180, but lines end in a line feed), with the header
-/// `bucket,line,class,quantity,price,charge`. Quantities are in byte-milliseconds, those of transitions a number of
-/// objects;
-/// prices and charges are in units.
+/// `bucket,line,class,quantity,price,charge`. Quantities are in byte-milliseconds, or for transitions a number of
+/// objects. Prices and charges are in units.
 ///
-/// Cost: a pass over the lines, and memory for the text.
+/// Cost: a pass over the lines; memory for the text.
 ///
 /// # Errors
 ///

@@ -1,4 +1,4 @@
-// What the lines of a report are called, and their prices.
+// The names and prices of a report's lines.
 ghost use Rattle.std.specs.Prelude.{◌≡◌};
 ghost use Rattle.usage_report.specs.Lines.{line_name, price_text};
 
@@ -14,7 +14,7 @@ pub(crate) fn line_name(kind: LineKind) -> &'static str
     }
 }
 
-// A price as its digits, which stand in the buffer.
+// A price as its digits; the buffer keeps them.
 pub(crate) fn price_text(digits: &mut itoa::Buffer, price: Price) -> &str
     ensures { result.now ≡ price_text price }
 {

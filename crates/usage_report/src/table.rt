@@ -18,7 +18,7 @@ fn put(out: &mut Vec<u8>, text: &[u8]) -> Result<(), AllocError>
     out.extend_from_slice(text)
 }
 
-// Puts spaces, as many as a text is shorter than a column of at most 28 characters.
+// Pads a text to the width of a column, at most 28 characters, with spaces.
 fn fill(out: &mut Vec<u8>, text: &[u8], width: usize) -> Result<(), AllocError>
     requires { width < 29 }
     ensures { OnOk result (out.new.items ≡ out.old.items ++ replicate (width - length text.now) 32) }
@@ -42,7 +42,7 @@ fn put_right(out: &mut Vec<u8>, text: &[u8], width: usize) -> Result<(), AllocEr
     put(out, text)
 }
 
-// Puts the three columns of names, each with a space behind it.
+// Writes the three columns of names, each with a space after it.
 fn put_names(out: &mut Vec<u8>, bucket: &[u8], kind: &[u8], class: &[u8]) -> Result<(), AllocError>
     ensures { OnOk result (out.new.items ≡ out.old.items
         ++ (left_aligned 24 bucket.now ++ 32 ∷ left_aligned 12 kind.now ++ 32 ∷ left_aligned 14 class.now ++ 32 ∷ [])) }
@@ -55,7 +55,7 @@ fn put_names(out: &mut Vec<u8>, bucket: &[u8], kind: &[u8], class: &[u8]) -> Res
     put(out, b" ")
 }
 
-// Puts the two columns of numbers, and ends the line.
+// Writes the two columns of numbers, and ends the line.
 fn put_numbers(out: &mut Vec<u8>, quantity: &[u8], charge: u128) -> Result<(), AllocError>
     ensures { OnOk result (out.new.items ≡ out.old.items
         ++ (right_aligned 28 quantity.now ++ 32 ∷ right_aligned 16 (decimal charge) ++ 10 ∷ [])) }
@@ -66,7 +66,7 @@ fn put_numbers(out: &mut Vec<u8>, quantity: &[u8], charge: u128) -> Result<(), A
     put(out, b"\n")
 }
 
-// Puts a line of five columns.
+// Writes a line of five columns.
 #[tactic(auto, unfolding(crate::specs::Tables::table_line))]
 fn put_row(
     out: &mut Vec<u8>,
@@ -102,7 +102,7 @@ fn put_total(out: &mut Vec<u8>, total: u128) -> Result<(), AllocError>
     put_row(out, "", "total", "", "", total)
 }
 
-// Puts a line for each line of the report, and one for the total.
+// Writes a line for each line of the report, and one for the total.
 fn put_report(out: &mut Vec<u8>, lines: &[ReportLine]) -> Result<(), AllocError>
     requires fits { charges lines.now < 2 ^ 128 }
     requires empty { out.old.items ≡ [] }
@@ -116,13 +116,11 @@ fn put_report(out: &mut Vec<u8>, lines: &[ReportLine]) -> Result<(), AllocError>
     put_total(out, total)
 }
 
-/// Writes the lines of a report and their total as a table: a line of text for each, with the bucket in a column of 24
-/// characters, the kind in one of 12, the class in one of 14, at the right of 28 the quantity, and at the right of 16
-/// the charge. Longer texts stand as they are. Quantities are in byte-milliseconds, those of transitions a number of
-/// objects;
-/// charges are in units.
+/// Writes the lines of a report and their total as a table: a line of text for each. The columns are the bucket (24
+/// characters), the kind (12), the class (14), and right-aligned the quantity (28) and the charge (16). A longer text
+/// is unchanged. Quantities are in byte-milliseconds, or for transitions a number of objects. Charges are in units.
 ///
-/// Cost: a pass over the lines, and memory for the text.
+/// Cost: a pass over the lines; memory for the text.
 ///
 /// # Errors
 ///
