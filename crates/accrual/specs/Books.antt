@@ -1,16 +1,16 @@
--- What is booked of a bucket: stays, early quantities and moves.
+-- What is booked for a bucket: stays, early quantities and moves.
 use Rattle.std.specs.Prelude.{ℕ, ◌≤◌, List, [], ◌∷◌, ◌++◌, Option, Some, None}
 use Rattle.std.specs.List.{AllByRecursion}
 use Rattle.class_rules.specs.declared.class.Class.{Class}
 
--- an interval in which one version or part has its lines: from a moment to one, or without an end yet
+-- an interval in which one version or part has its lines; its end is missing if it has not ended yet
 pub record Stay : Type 0 where
   pub lines : List (Class × ℕ)
   pub from : ℕ
   pub to : Option ℕ
 
--- what an object owes that left its class before the least duration, in byte-milliseconds, and when it left (S3 User
--- Guide, "Understanding and managing Amazon S3 storage classes": minimum storage durations)
+-- the charge for an object that left its class before the minimum storage duration, in byte-milliseconds, and when it
+-- left (S3 User Guide, "Understanding and managing Amazon S3 storage classes": minimum storage durations)
 pub record Early : Type 0 where
   pub class : Class
   pub amount : ℕ
@@ -21,44 +21,44 @@ pub record Move : Type 0 where
   pub class : Class
   pub moment : ℕ
 
--- every stay ever opened, every early quantity and every move, in the order in which they were booked
+-- all stays, early quantities and moves, in the order in which they were booked
 pub record Book : Type 0 where
   pub stays : List Stay
   pub early : List Early
   pub moves : List Move
 
--- the book of a bucket of which nothing was booked yet
+-- the book of a bucket for which nothing was booked yet
 abbrev pub empty_book : Book
 empty_book = record { stays = []; early = []; moves = [] }
 
--- a stay without an end yet, and one that has ended
+-- a stay that has not ended
 abbrev pub open_stay : List (Class × ℕ) → ℕ → Stay
 open_stay lines from = record { lines = lines; from = from; to = None }
 
--- a stay from the one moment to the other, at which it ended
+-- a stay that began at the first moment and ended at the second
 abbrev pub ended_stay : List (Class × ℕ) → ℕ → ℕ → Stay
 ended_stay lines from at = record { lines = lines; from = from; to = Some at }
 
--- the book with this stay, booked behind all others
+-- the book with this stay at its end
 abbrev pub book_with_stay : Stay → Book → Book
 book_with_stay stay book = record book { stays = book.stays ++ stay ∷ [] }
 
--- the book with this early quantity, booked behind all others
+-- the book with this early quantity at its end
 abbrev pub book_with_early : Early → Book → Book
 book_with_early early book = record book { early = book.early ++ early ∷ [] }
 
--- the book with this lifecycle transition, booked behind all others
+-- the book with this lifecycle transition at its end
 abbrev pub with_move : Move → Book → Book
 with_move move book = record book { moves = book.moves ++ move ∷ [] }
 
--- ---- all that is booked has happened at a moment
+-- ---- everything booked has happened by a moment
 
--- the end of a stay, where it has one, is not after the moment
+-- the end of a stay, if it has one, is not after the moment
 abbrev pub HasEndedBy : ℕ → Option ℕ → Type 0
 HasEndedBy t None = Unit {0}
 HasEndedBy t (Some to) = to ≤ t
 
--- the stay began no later than the moment, and its end, where it has one, is not after it
+-- the start of the stay, and its end if it has one, are not after the moment
 abbrev pub IsStayBy : ℕ → Stay → Type 0
 IsStayBy t stay = (stay.from ≤ t) × HasEndedBy t stay.to
 

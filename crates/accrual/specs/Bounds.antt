@@ -1,4 +1,4 @@
--- How large the kept numbers are after so many bookings, so that no sum leaves its range.
+-- How large the kept numbers are after a number of bookings, so that no sum leaves its range.
 use Rattle.std.specs.Prelude.{ℕ, ◌≡◌, ◌+◌, ◌*◌, ◌^◌, ◌≤◌, ◌<◌, length}
 use Rattle.moments.specs.Months.{months}
 use Rattle.class_rules.specs.Classes.{rank_of}
@@ -7,9 +7,9 @@ use Rattle.accrual.specs.declared.rows.Rows.{Rows}
 use Rattle.accrual.specs.Rows.{kept_in, running_to, arrived_to, departed_to, gross_in, excess_in}
 use Rattle.accrual.specs.Totals.{most_bookings}
 
--- a booking adds less than 2 ^ 44 bytes, a month has less than 2 ^ 32 milliseconds, and nothing owes more than 5 * 2 ^
--- 74 byte-milliseconds; a stay without an end counts for 2 ^ 32 milliseconds of every month, so that its end adds
--- nothing
+-- the rows are bounded by the number of bookings. A booking adds less than 2 ^ 44 bytes, a month has less than 2 ^ 32
+-- milliseconds, and no early quantity is above 5 * 2 ^ 74 byte-milliseconds. A stay without an end counts for 2 ^ 32
+-- milliseconds of every month, so that its end adds nothing.
 pub record IsBounded (rows : Rows) (booked : ℕ) : Type 0 where
   pub run : rows.first + length rows.rows.items ≤ months
   pub few : booked ≤ most_bookings

@@ -11,38 +11,38 @@ use Rattle.accrual.specs.declared.rows.Before.{Before}
 use Rattle.accrual.specs.declared.rows.Numbers.{Numbers}
 use Rattle.accrual.specs.declared.rows.Rows.{Rows}
 
--- what is kept of a class in a month of which nothing was booked
+-- what is kept for a class in a month for which nothing was booked
 abbrev pub nothing : Numbers
 nothing = record { edges = 0; arrived = 0; departed = 0; running = 0; lead = 0; early = 0; moves = 0 }
 
--- what is kept of the class with this rank in the month: nothing where there is no row
+-- what is kept for the class with this rank in the month; nothing if there is no row
 unfoldable pub kept_in : Rows → ℕ → ℕ → Numbers
 kept_in rows month rank =
     if nat_le rows.first month then get_or (get_or rows.rows.items (month - rows.first) []) rank nothing else nothing
 
--- the month has a row: it is one of those from the first on, without a gap
+-- the month has a row: the rows are for consecutive months from the first on
 abbrev pub HasRowIn : Rows → ℕ → Type 0
 HasRowIn rows month = (rows.first ≤ month) × (month < rows.first + length rows.rows.items)
 
--- one place was written
+-- the numbers of one month and class were written; all others are unchanged
 pub record IsPut (old new : Rows) (month rank : ℕ) (kept : Numbers) : Type 0 where
   pub there : kept_in new month rank ≡ kept
   pub others : (m r : ℕ) → (m ≢ month) ⊎ (r ≢ rank) → kept_in new m r ≡ kept_in old m r
   pub first : new.first ≡ old.first
   pub as_many : length new.rows.items ≡ length old.rows.items
 
--- one row was written
+-- the numbers of one month were written; all others are unchanged
 pub record IsRowPut (old new : Rows) (month : ℕ) (row : List Numbers) : Type 0 where
   pub there : (r : ℕ) → kept_in new month r ≡ get_or row r nothing
   pub others : (m r : ℕ) → m ≢ month → kept_in new m r ≡ kept_in old m r
   pub first : new.first ≡ old.first
   pub as_many : length new.rows.items ≡ length old.rows.items
 
--- n at this place, 0 at all others
+-- n at this month and rank, 0 at all others
 abbrev pub at_place : ℕ → ℕ → ℕ → ℕ → ℕ → ℕ
 at_place month rank m r n = if m == month && rank == r then n else 0
 
--- the numbers were added at one place
+-- these numbers were added at one month and rank
 pub record IsAdded (old new : Rows) (month rank : ℕ) (more : Numbers) : Type 0 where
   pub edges : (m r : ℕ) → (kept_in new m r).edges ≡ (kept_in old m r).edges + at_place month rank m r more.edges
   pub arrived : (m r : ℕ) → (kept_in new m r).arrived ≡ (kept_in old m r).arrived + at_place month rank m r more.arrived
@@ -65,7 +65,7 @@ pub record HasRoom (kept more : Numbers) : Type 0 where
   pub early : kept.early + more.early < 2 ^ 128
   pub moves : kept.moves + more.moves < 2 ^ 64
 
--- the numbers can be taken out
+-- the numbers can be subtracted
 pub record IsWithin (less kept : Numbers) : Type 0 where
   pub edges : less.edges ≤ kept.edges
   pub arrived : less.arrived ≤ kept.arrived
@@ -79,19 +79,22 @@ pub record IsWithin (less kept : Numbers) : Type 0 where
 abbrev pub in_month : ℕ → ℕ → ℕ → ℕ
 in_month month m n = if m == month then n else 0
 
--- what each byte of a stay without an end counts that began so many milliseconds after the start of the month
+-- what each byte counts of a stay without an end, in the month in which it began; ms is from the month's start to its
+-- beginning
 abbrev pub running_each : ℕ → Numbers
 running_each ms = record { edges = 0; arrived = 0; departed = 0; running = 1; lead = ms; early = 0; moves = 0 }
 
--- what each byte of a stay that has ended counts in the month in which it began, so many milliseconds before its end
+-- what each byte counts of a stay that has ended, in the month in which it began; ms is from its beginning to the
+-- month's end
 abbrev pub arrived_each : ℕ → Numbers
 arrived_each ms = record { edges = ms; arrived = 1; departed = 0; running = 0; lead = 0; early = 0; moves = 0 }
 
--- what each of its bytes counts in the month in which it ended, so many milliseconds after its start
+-- what each byte counts of a stay that has ended, in the month in which it ended; ms is from the month's start to its
+-- end
 abbrev pub departed_each : ℕ → Numbers
 departed_each ms = record { edges = ms; arrived = 0; departed = 1; running = 0; lead = 0; early = 0; moves = 0 }
 
--- the numbers of so many bytes, by what each of them counts
+-- the numbers of this many bytes, given what each byte counts
 abbrev pub weighed : ℕ → Numbers → Numbers
 weighed bytes each = record {
   edges = bytes * each.edges;
@@ -103,7 +106,7 @@ weighed bytes each = record {
   moves = 0;
 }
 
--- a byte counts for no more than itself, and for less than 2 ^ 32 milliseconds
+-- each byte counts as at most one byte, and for less than 2 ^ 32 milliseconds
 pub record IsShort (each : Numbers) : Type 0 where
   pub edges : each.edges < 2 ^ 32
   pub arrived : each.arrived ≤ 1
@@ -111,7 +114,7 @@ pub record IsShort (each : Numbers) : Type 0 where
   pub running : each.running ≤ 1
   pub lead : each.lead < 2 ^ 32
 
--- what is kept of the month holds what stays with these lines count there
+-- what is kept for the month includes what stays with these lines count in it, so that they can be subtracted
 pub record HasBooked (rows : Rows) (lines : Lines) (month : ℕ) (each : Numbers) : Type 0 where
   pub edges : (class : Class)
       → bytes_in_class class (lines_of lines) * each.edges ≤ (kept_in rows month (rank_of class)).edges
@@ -124,7 +127,7 @@ pub record HasBooked (rows : Rows) (lines : Lines) (month : ℕ) (each : Numbers
   pub lead : (class : Class)
       → bytes_in_class class (lines_of lines) * each.lead ≤ (kept_in rows month (rank_of class)).lead
 
--- stays with these lines were booked in the month, by what each of their bytes counts there
+-- stays with these lines were booked in the month, given what each of their bytes counts
 pub record IsBooked (old new : Rows) (lines : Lines) (month : ℕ) (each : Numbers) : Type 0 where
   pub edges : (m : ℕ) (class : Class)
       → (kept_in new m (rank_of class)).edges
@@ -149,7 +152,7 @@ pub record IsBooked (old new : Rows) (lines : Lines) (month : ℕ) (each : Numbe
   pub first : new.first ≡ old.first
   pub as_many : length new.rows.items ≡ length old.rows.items
 
--- far from the end of its range
+-- the numbers are below half of their range
 pub record IsModest (kept : Numbers) : Type 0 where
   pub edges : kept.edges < 2 ^ 127
   pub arrived : kept.arrived < 2 ^ 127
@@ -161,7 +164,7 @@ pub record IsModest (kept : Numbers) : Type 0 where
 
 -- ---- sums over the months before one
 
--- the sum over the first n months of one of the kept numbers
+-- the sum of one of the kept numbers over the first n months
 unfoldable pub sum_to : (Numbers → ℕ) → Rows → ℕ → ℕ → ℕ
 sum_to number rows rank zero = 0
 sum_to number rows rank (suc n) = sum_to number rows rank n + number (kept_in rows n rank)
@@ -184,20 +187,20 @@ pub record IsBefore (rows : Rows) (month rank : ℕ) (before : Before) : Type 0 
   pub arrived : before.arrived ≡ arrived_to rows rank month
   pub departed : before.departed ≡ departed_to rows rank month
 
--- no sums
+-- sums that are all 0
 abbrev pub none_before : Before
 none_before = record { running = 0; arrived = 0; departed = 0 }
 
--- the sums of each class over the months before this one, by their ranks
+-- the sums of each class over the months before this one, by rank
 abbrev pub AreBefore : Rows → ℕ → List Before → Type 0
 AreBefore rows month sums =
     (class : Class) → IsBefore rows month (rank_of class) (get_or sums (rank_of class) none_before)
 
--- what is counted of a month: its edges, and the whole month for what arrived before it
+-- the byte-milliseconds counted for a month: its edges, and the whole month for all that arrived before it
 unfoldable pub gross_in : Rows → ℕ → ℕ → ℕ
 gross_in rows month rank = (kept_in rows month rank).edges + arrived_to rows rank month * month_length month
 
--- what of that is too much: the whole month for what had departed by its end
+-- the excess in that count: the whole month for all that departed by its end
 unfoldable pub excess_in : Rows → ℕ → ℕ → ℕ
 excess_in rows month rank = departed_to rows rank (month + 1) * month_length month
 
@@ -205,7 +208,7 @@ excess_in rows month rank = departed_to rows rank (month + 1) * month_length mon
 unfoldable pub ended_in : Rows → ℕ → ℕ → ℕ
 ended_in rows month rank = gross_in rows month rank - excess_in rows month rank
 
--- a stay with these lines has ended, which was so many milliseconds long in each month
+-- a stay with these lines has ended; ms gives its milliseconds in each month
 pub record IsEnded (old new : Rows) (lines : Lines) (ms : ℕ → ℕ) : Type 0 where
   pub gain : (m : ℕ) (class : Class)
       → gross_in new m (rank_of class) + excess_in old m (rank_of class)

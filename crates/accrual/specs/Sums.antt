@@ -1,4 +1,4 @@
--- The sums of a bucket's months, without the stays that have no end yet.
+-- The sums of a bucket's months, without stays that have not ended.
 use Rattle.std.specs.Prelude.{◌≡◌, ℕ, ◌^◌, ◌<◌, Bool, ◌&&◌, ◌==◌, List, get_or, sum_by, if◌then◌else◌, IsFalse, All, AllPairs}
 use Rattle.std.specs.List.{list_all}
 use Rattle.class_rules.specs.Classes.{rank_of}
@@ -11,7 +11,7 @@ use Rattle.accrual.specs.declared.rows.Numbers.{Numbers}
 use Rattle.accrual.specs.declared.rows.Rows.{Rows}
 use Rattle.accrual.specs.declared.monthly.MonthSums.{MonthSums}
 
--- a month's number of a class by a list of months: that of the month's entry, 0 where there is none
+-- the number of a month and a class in a list of months; 0 if the list has no entry for the month
 abbrev pub listed : (MonthSums → List ℕ) → List MonthSums → ℕ → Class → ℕ
 listed numbers sums month class =
     sum_by (λ (s : MonthSums). if s.month == month then get_or (numbers s) (rank_of class) 0 else 0) sums
@@ -26,11 +26,11 @@ pub record AreSumsOf (book : Book) (sums : List MonthSums) : Type 0 where
 abbrev pub HasAllEnded : Book → Type 0
 HasAllEnded book = All (λ (stay : Stay). IsFalse (has_no_end stay.to)) book.stays
 
--- the months strictly rise
+-- the months are in strictly ascending order
 abbrev pub HaveRisingMonths : List MonthSums → Type 0
 HaveRisingMonths sums = AllPairs (λ (a b : MonthSums). a.month < b.month) sums
 
--- the number of a class in a month is 0
+-- the number is 0
 abbrev pub is_zero : ℕ → Bool
 is_zero n = n == 0
 
@@ -38,13 +38,13 @@ is_zero n = n == 0
 abbrev pub is_nothing : MonthSums → Bool
 is_nothing sums = list_all is_zero sums.ended && list_all is_zero sums.early && list_all is_zero sums.moves
 
--- numbers from which meters can go on (own: they leave room for all bookings)
+-- sums with which meters can start (own: they leave room for all bookings)
 pub record IsSmallMonth (sums : MonthSums) : Type 0 where
   pub ended : All (λ n. n < 2 ^ 120) sums.ended
   pub early : All (λ n. n < 2 ^ 120) sums.early
   pub moves : All (λ n. n < 2 ^ 62) sums.moves
 
--- ---- the same of rows
+-- ---- the same for rows
 
 -- the list has the sums of the rows
 pub record AreSumsIn (rows : Rows) (sums : List MonthSums) : Type 0 where
@@ -55,20 +55,20 @@ pub record AreSumsIn (rows : Rows) (sums : List MonthSums) : Type 0 where
   pub moves : (month : ℕ) (class : Class)
       → listed (λ s. s.moves) sums month class ≡ (kept_in rows month (rank_of class)).moves
 
--- the entry has the sums of this month of the rows
+-- the entry has the sums of the rows for this month
 pub record IsMonthOf (rows : Rows) (number : ℕ) (sums : MonthSums) : Type 0 where
   pub month : sums.month ≡ number
   pub ended : (class : Class) → get_or sums.ended (rank_of class) 0 ≡ ended_in rows number (rank_of class)
   pub early : (class : Class) → get_or sums.early (rank_of class) 0 ≡ (kept_in rows number (rank_of class)).early
   pub moves : (class : Class) → get_or sums.moves (rank_of class) 0 ≡ (kept_in rows number (rank_of class)).moves
 
--- nothing of a class is counted in a month but stays without an end
+-- the rows have nothing for a class in a month, except stays that have not ended
 pub record HasNoSum (rows : Rows) (month rank : ℕ) : Type 0 where
   pub ended : ended_in rows month rank ≡ 0
   pub early : (kept_in rows month rank).early ≡ 0
   pub moves : (kept_in rows month rank).moves ≡ 0
 
--- what is kept of a class in a month with these sums
+-- what is kept for a class in a month that starts with these sums
 abbrev pub summed_numbers : MonthSums → ℕ → Numbers
 summed_numbers sums rank = record {
   edges = get_or sums.ended rank 0;
@@ -80,7 +80,7 @@ summed_numbers sums rank = record {
   moves = get_or sums.moves rank 0;
 }
 
--- nothing is kept of a stay, and the sums leave room
+-- no stay is kept, and the sums leave room for all bookings
 pub record IsSmall (kept : Numbers) : Type 0 where
   pub edges : kept.edges < 2 ^ 120
   pub arrived : kept.arrived ≡ 0

@@ -1,4 +1,4 @@
--- Running totals by month and class in place of a book, and when they stand for one.
+-- Running totals by month and class in place of a book, and when they agree with one.
 use Rattle.std.specs.Prelude.{◌≡◌, ℕ, ◌+◌, ◌-◌, ◌*◌, ◌^◌, ◌≤◌, min, max, Bool, true, false, ◌&&◌, List, ◌∷◌, ◌++◌, Option, Some, None}
 use Rattle.std.specs.Prelude.{sum_by, nat_lt, if◌then◌else◌}
 use Rattle.office_base.specs.Sizes.{largest_size}
@@ -12,12 +12,12 @@ use Rattle.accrual.specs.Books.{Stay, Book, open_stay, book_with_early}
 use Rattle.accrual.specs.Meters.{bytes_in_class, is_in_month, early_quantity, move_count}
 use Rattle.accrual.specs.Rows.{kept_in, ended_in, HasRowIn}
 
--- what the meters are to their callers: rows by month, and the number of calls of open, early and moved
+-- meters as contracts see them: rows by month, and the number of calls of open, early and moved
 pub record Totals : Type 0 where
   pub rows : Rows
   pub booked : ℕ
 
--- what is kept of a class in a month, nothing where the month has no row
+-- what is kept for a class in a month; nothing if the month has no row
 abbrev pub kept : Totals → ℕ → Class → Numbers
 kept totals month class = kept_in totals.rows month (rank_of class)
 
@@ -25,33 +25,33 @@ kept totals month class = kept_in totals.rows month (rank_of class)
 abbrev pub HasRow : Totals → ℕ → Type 0
 HasRow totals month = HasRowIn totals.rows month
 
--- the most calls of open, early and moved; an end is paid for by its opening (own: no sum then leaves its range, and
--- three such calls in each of 2 ^ 42 commands are within it, with 2 ^ 20 before them)
+-- the most calls of open, early and moved; an end counts with its opening (own). With this bound no sum leaves its
+-- range. It allows three such calls in each of 2 ^ 42 commands, and 2 ^ 20 calls before them.
 abbrev pub most_bookings : ℕ
 most_bookings = 3 * 2 ^ 42 + 2 ^ 20
 
--- ---- what is kept of one stay
+-- ---- what is kept for one stay
 
--- a stay with this end is open: it has none yet
+-- a stay with this end has not ended
 abbrev pub has_no_end : Option ℕ → Bool
 has_no_end None = true
 has_no_end (Some to) = false
 
--- the milliseconds in a window from a moment to an end
+-- the milliseconds from one moment to another that are inside a window
 abbrev pub ms_within : ℕ → ℕ → ℕ → ℕ → ℕ
 ms_within start end from to = min to end - max from start
 
--- the milliseconds in a window from a moment to the end, where there is one
+-- the milliseconds of a stay that are inside a window; 0 if it has not ended
 abbrev pub ended_ms : ℕ → ℕ → ℕ → Option ℕ → ℕ
 ended_ms start end from None = 0
 ended_ms start end from (Some to) = ms_within start end from to
 
--- the bytes of a stay without an end that began in the month
+-- the bytes of a stay in the class, if it has not ended and began in the month; else 0
 abbrev pub running_bytes : ℕ → Class → Stay → ℕ
 running_bytes month class stay =
     if has_no_end stay.to && is_in_month month stay.from then bytes_in_class class stay.lines else 0
 
--- ---- what is kept of all stays, by month and class
+-- ---- what is kept for all stays, by month and class
 
 -- the byte-milliseconds inside the month of the stays that have ended
 unfoldable pub ended_sum : ℕ → Class → Book → ℕ
@@ -63,13 +63,12 @@ ended_sum month class book =
 unfoldable pub running_sum : ℕ → Class → Book → ℕ
 running_sum month class book = sum_by (λ (stay : Stay). running_bytes month class stay) book.stays
 
--- their byte-milliseconds from the month's start to their beginnings
+-- the byte-milliseconds of these stays from the month's start to their beginnings
 unfoldable pub lead_sum : ℕ → Class → Book → ℕ
 lead_sum month class book =
     sum_by (λ (stay : Stay). running_bytes month class stay * (stay.from - month_start month)) book.stays
 
--- the totals are those of the book: each kept number equals its sum over the book, and is nothing in a month that is
--- not kept
+-- the totals agree with the book: each kept number is its sum over the book; a month without a row counts as 0
 pub record AreTotalsOf (totals : Totals) (book : Book) : Type 0 where
   pub ended : (month : ℕ) (class : Class) → ended_in totals.rows month (rank_of class) ≡ ended_sum month class book
   pub running : (month : ℕ) (class : Class) → (kept totals month class).running ≡ running_sum month class book
@@ -79,16 +78,16 @@ pub record AreTotalsOf (totals : Totals) (book : Book) : Type 0 where
 
 -- ---- what is booked
 
--- the book has a stay without an end with these lines from this moment
+-- the book has a stay with these lines that began at this moment and has not ended
 abbrev pub HasOpenStay : List (Class × ℕ) → ℕ → Book → Type 0
 HasOpenStay lines from book = (before after : List Stay) × (book.stays ≡ before ++ open_stay lines from ∷ after)
 
--- the lines of an object of a size that is taken
+-- lines whose bytes are within the largest billed object
 abbrev pub IsBilled : Lines → Type 0
 IsBilled lines = (lines.bytes ≤ largest_size + 32_768) × (lines.standard ≤ largest_size + 32_768)
 
--- what an object owes that has this many bytes on its own line and leaves before the least duration is over (S3 User
--- Guide, "Understanding and managing Amazon S3 storage classes": minimum storage durations)
+-- the book, with an early quantity if an object with these bytes on its own line left before the minimum storage
+-- duration was over (S3 User Guide, "Understanding and managing Amazon S3 storage classes": minimum storage durations)
 abbrev pub with_early_of : Class → ℕ → ℕ → ℕ → Book → Book
 with_early_of class bytes entered at book =
     if nat_lt at (entered + least_stay class)

@@ -17,14 +17,14 @@ use office_base::NoMemory;
 use std::alloc::Global;
 use std::marker::Model;
 
-/// What a bucket used, by month and storage class: byte-milliseconds, early quantities and moves. It keeps running
-/// totals by month and no stays, so that its size goes by the months.
+/// What a bucket used, by month and storage class: byte-milliseconds, early quantities and moves. Meters keep running
+/// totals by month and no stays, so their size depends on the number of months.
 ///
 /// Rule: S3 User Guide, "Understanding your AWS billing and usage reports for Amazon S3": usage is bytes times time.
 #[derive(Drop)]
 pub struct Meters {
     rows: Rows,
-    // The calls of `open`, `early` and `moved`.
+    // The number of calls of `open`, `early` and `moved`.
     booked: u64,
 }
 
@@ -51,15 +51,16 @@ impl Meters {
         }
     }
 
-    /// Reads how many calls of `open`, `early` and `moved` there were. `end` is not counted: its opening paid for it.
+    /// Reads how many calls of `open`, `early` and `moved` there were. A call of `end` is not counted: it counts with
+    /// its `open`.
     pub fn booked(&self) -> u64
         ensures { result ≡ self.now.booked }
     {
         self.booked
     }
 
-    /// Gives meters with these sums, in which no stay is without an end. The months strictly rise, the
-    /// byte-milliseconds are below 2^120 and the moves below 2^62.
+    /// Makes meters that start with these sums, with no stay that has not ended. The months are in strictly ascending
+    /// order, the byte-milliseconds below 2^120 and the moves below 2^62.
     ///
     /// # Errors
     ///
@@ -77,7 +78,7 @@ impl Meters {
         }
     }
 
-    /// Lists the sums of the months, in order, without the stays that have no end yet. A month in which all are 0 is
+    /// Lists the sums of the months, in order, without stays that have not ended. A month in which all sums are 0 is
     /// left out.
     ///
     /// # Errors
@@ -94,7 +95,7 @@ impl Meters {
         }
     }
 
-    /// Copies the meters: the copy stands for each book for which they stand.
+    /// Copies the meters: the copy agrees with the same books.
     ///
     /// # Errors
     ///
@@ -112,11 +113,11 @@ impl Meters {
         }
     }
 
-    /// Makes rows for these months, and all between them and the rows that are there.
+    /// Makes rows for these months, and for all months between them and the existing rows.
     ///
     /// # Errors
     ///
-    /// `NoMemory`: memory ran out. What the meters stand for is then unchanged.
+    /// `NoMemory`: memory ran out. The meters then still agree with the same books.
     pub fn reserve(&mut self, from: Month, to: Month) -> Result<(), NoMemory>
         requires { from ≤ to }
         ensures rows { OnOk result ((month : ℕ) → from ≤ month → month ≤ to → HasRow self.new month) }
@@ -130,7 +131,7 @@ impl Meters {
         }
     }
 
-    /// Books that a stay with these lines began. Takes no memory.
+    /// Books the start of a stay with these lines. Takes no memory.
     pub fn open(&mut self, lines: &Lines, from: Moment)
         requires row { HasRow self.old (month_at from) }
         requires few { self.old.booked < most_bookings }
@@ -147,7 +148,7 @@ impl Meters {
         self.booked += 1;
     }
 
-    /// Books that a stay with these lines, which began at `from` and had no end, ended. Takes no memory.
+    /// Books the end of a stay with these lines, which began at `from` and had not ended. Takes no memory.
     pub fn end(&mut self, lines: &Lines, from: Moment, at: Moment)
         requires later { from ≤ at }
         requires rows { (month : ℕ) → month_at from ≤ month → month ≤ month_at at → HasRow self.old month }
@@ -171,9 +172,9 @@ impl Meters {
             .book(lines, last.number(), &departed_each(at.ms() - start));
     }
 
-    /// Books what an object owes that entered this class at `entered`, has this many bytes on its own line, and leaves
-    /// at `at`:
-    /// the bytes times what is left of the least duration, in byte-milliseconds. Takes no memory.
+    /// Books the early quantity of an object that entered this class at `entered`, has this many bytes on its own line,
+    /// and leaves at `at`. It is the bytes times the rest of the minimum storage duration, in byte-milliseconds. Takes
+    /// no memory.
     ///
     /// Rule: S3 User Guide, "Understanding and managing Amazon S3 storage classes": minimum storage durations.
     pub fn early(&mut self, class: Class, bytes: u64, entered: Moment, at: Moment)
@@ -213,7 +214,7 @@ impl Meters {
         self.booked += 1;
     }
 
-    /// Reads the byte-milliseconds of a month and a class, as seen at the moment, which is not before what was booked.
+    /// Reads the byte-milliseconds of a month and a class, as seen at a moment that is not before anything booked.
     /// Takes no memory.
     pub fn reading(&self, month: Month, class: Class, t: Moment) -> u128
         ensures exact { (book : Book) → AreTotalsOf self.now book → IsBookedBy t book

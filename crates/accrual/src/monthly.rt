@@ -1,4 +1,4 @@
-// The sums of the months, taken out of rows and put into rows.
+// Taking the sums of the months from rows, and making rows of sums.
 ghost use Rattle.std.specs.Prelude.{◌≡◌, ◌<◌, ◌≤◌, ◌+◌, ℕ, length, get_or, IfOk, IfSome, IfNone, IsFalse, All};
 ghost use Rattle.std.specs.List.{list_all};
 ghost use Rattle.moments.specs.Months.{months};
@@ -14,7 +14,7 @@ use class_rules::Class;
 use moments::Month;
 use std::alloc::{AllocError, Global};
 
-/// What a bucket used in a month, the stays left out that have no end yet. A number for each class, the warmest first.
+/// What a bucket used in a month, without stays that have not ended: a number for each class, the warmest first.
 #[derive(Clone, Copy, Debug, PartialEq, Eq)]
 pub struct MonthSums {
     pub month: Month,
@@ -27,7 +27,7 @@ pub struct MonthSums {
 }
 
 impl MonthSums {
-    // Tells whether all its numbers are 0.
+    // Returns whether all numbers are 0.
     fn is_nothing(&self) -> bool
         ensures { result ≡ is_nothing self.now }
     {
@@ -36,7 +36,7 @@ impl MonthSums {
 }
 
 impl Rows {
-    // Lists the sums of each month that has some.
+    // Lists the sums of each month in which not all are 0.
     pub(crate) fn sums(&self) -> Result<Vec<MonthSums>, AllocError>
         requires sound { IsSound self.now }
         ensures sums { IfOk result (λ sums. AreSumsIn self.now sums.items) }
@@ -56,7 +56,7 @@ impl Rows {
         Ok(all)
     }
 
-    // Gives the sums of a month, by those before it; None where all are 0.
+    // Gives the sums of a month, given the sums before it; None if all are 0.
     fn sums_in(&self, month: u64, before: &[Before; 6]) -> Option<MonthSums>
         requires row { HasRowIn self.now month }
         requires sound { IsSound self.now }
@@ -76,7 +76,7 @@ impl Rows {
         Some(sums)
     }
 
-    // Lists the byte-milliseconds, inside the month, of the stays that have ended, by the sums before it.
+    // Lists the byte-milliseconds, inside the month, of the stays that have ended, given the sums before it.
     fn all_ended(&self, month: Month, before: &[Before; 6]) -> [u128; 6]
         requires sound { IsSound self.now }
         requires before { AreBefore self.now month before.now }
@@ -92,7 +92,7 @@ impl Rows {
         ]
     }
 
-    // The sums before the next month, by those before this one.
+    // The sums before the next month, given those before this one.
     fn all_past(&self, month: u64, before: &[Before; 6]) -> [Before; 6]
         requires sound { IsSound self.now }
         requires before { AreBefore self.now month before.now }
@@ -108,7 +108,7 @@ impl Rows {
         ]
     }
 
-    // Gives rows with these sums, in which no stay is without an end.
+    // Makes rows that start with these sums, with no stay that has not ended.
     pub(crate) fn from_sums(alloc: Global, sums: &[MonthSums]) -> Result<Rows, AllocError>
         requires rising { HaveRisingMonths sums.now }
         requires small { All IsSmallMonth sums.now }
@@ -139,7 +139,7 @@ fn are_zero(numbers: &[u128; 6]) -> bool
     numbers.iter().all(|n| *n == 0)
 }
 
-// The sums of a month by its row, with the byte-milliseconds of the stays that have ended.
+// The sums of a month, given its row and the byte-milliseconds of the stays that have ended.
 fn sums_of(month: Month, ended: [u128; 6], row: &[Numbers; 6]) -> MonthSums
     ensures month { result.month ≡ month }
     ensures ended { result.ended ≡ ended }
@@ -157,7 +157,7 @@ fn sums_of(month: Month, ended: [u128; 6], row: &[Numbers; 6]) -> MonthSums
     }
 }
 
-// The row of a month with these sums.
+// The row of a month that starts with these sums.
 fn row_of(sums: &MonthSums) -> [Numbers; 6]
     ensures { (class : Class) → get_or result (rank_of class) nothing ≡ summed_numbers sums.now (rank_of class) }
 {
@@ -171,7 +171,7 @@ fn row_of(sums: &MonthSums) -> [Numbers; 6]
     ]
 }
 
-// What is kept of the class with this rank in a month with these sums.
+// What is kept for the class with this rank in a month that starts with these sums.
 fn kept_of(sums: &MonthSums, rank: usize) -> Numbers
     requires { rank < 6 }
     ensures { result ≡ summed_numbers sums.now rank }

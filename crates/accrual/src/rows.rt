@@ -13,19 +13,19 @@ use class_rules::{Class, Lines, rank};
 use moments::{Month, month_window};
 use std::alloc::{AllocError, Global};
 
-/// What is kept of a class in a month.
+/// What is kept for a class in a month.
 #[derive(Clone, Copy, Debug, PartialEq, Eq)]
 pub(crate) struct Numbers {
-    // Of the stays that have ended: the byte-milliseconds from the beginnings in the month to its end, and from its
-    // start to the ends in it.
+    // For stays that have ended: the byte-milliseconds from each start in the month to the month's end, and from the
+    // month's start to each end in it.
     pub(crate) edges: u128,
-    // The bytes of the stays that have ended and began in the month.
+    // The bytes of the stays that began in the month and have ended.
     pub(crate) arrived: u128,
     // The bytes of the stays that ended in the month.
     pub(crate) departed: u128,
-    // The bytes of the stays without an end that began in the month.
+    // The bytes of the stays that began in the month and have not ended.
     pub(crate) running: u128,
-    // The byte-milliseconds from the month's start to their beginnings.
+    // The byte-milliseconds of these stays from the month's start to their beginnings.
     pub(crate) lead: u128,
     // The early quantities, in byte-milliseconds.
     pub(crate) early: u128,
@@ -33,18 +33,18 @@ pub(crate) struct Numbers {
     pub(crate) moves: u64,
 }
 
-/// Sums over the months before one, of a class.
+/// The sums of a class over the months before one.
 #[derive(Clone, Copy)]
 pub(crate) struct Before {
-    // The bytes of the stays without an end that began.
+    // The bytes of the stays that began and have not ended.
     pub(crate) running: u128,
-    // The bytes of the stays that have ended and began.
+    // The bytes of the stays that began and have ended.
     pub(crate) arrived: u128,
     // The bytes of the stays that ended.
     pub(crate) departed: u128,
 }
 
-/// Rows for a run of months, six classes in each, the warmest first.
+/// Rows for consecutive months, with six classes in each, the warmest first.
 #[derive(Drop)]
 pub(crate) struct Rows {
     // The month of the first row, from 0 for January 1970.
@@ -83,7 +83,7 @@ impl Rows {
         })
     }
 
-    // Gives no rows.
+    // Makes an empty list of rows.
     pub(crate) fn new(alloc: Global) -> Rows
         ensures first { result.first ≡ 0 }
         ensures none { length result.rows.items ≡ 0 }
@@ -94,7 +94,7 @@ impl Rows {
         }
     }
 
-    // Reads what is kept; nothing where there is no row.
+    // Reads what is kept; nothing if there is no row.
     #[tactic(auto, using(crate::proofs::Places::kept_anywhere))]
     pub(crate) fn kept(&self, month: u64, class: Class) -> Numbers
         ensures { result ≡ kept_in self.now month (rank_of class) }
@@ -140,7 +140,7 @@ impl Rows {
         self.put(month, class, sums);
     }
 
-    // Takes out of what is kept.
+    // Subtracts from what is kept.
     fn remove(&mut self, month: u64, class: Class, less: Numbers)
         requires row { HasRowIn self.old month }
         requires within { IsWithin less (kept_in self.old month (rank_of class)) }
@@ -159,7 +159,7 @@ impl Rows {
         self.put(month, class, rest);
     }
 
-    // Books stays with these lines in the month, by what each of their bytes counts there.
+    // Books stays with these lines in the month, given what each of their bytes counts.
     pub(crate) fn book(&mut self, lines: &Lines, month: u64, each: &Numbers)
         requires row { HasRowIn self.old month }
         requires modest { (class : Class) → IsModest (kept_in self.old month (rank_of class)) }
@@ -173,7 +173,7 @@ impl Rows {
         }
     }
 
-    // Takes out what `book` booked.
+    // Undoes a call of `book`.
     pub(crate) fn unbook(&mut self, lines: &Lines, month: u64, each: &Numbers)
         requires row { HasRowIn self.old month }
         requires within { HasBooked self.old lines.now month each.now }
@@ -186,7 +186,7 @@ impl Rows {
         }
     }
 
-    // The byte-milliseconds, inside the month, of the stays that have ended, by the sums before it.
+    // The byte-milliseconds, inside the month, of the stays that have ended, given the sums before it.
     pub(crate) fn ended(&self, month: Month, class: Class, before: Before) -> u128
         requires sound { IsSound self.now }
         requires before { IsBefore self.now month (rank_of class) before }
@@ -199,7 +199,7 @@ impl Rows {
         gross - (before.departed + kept.departed) * length
     }
 
-    // The sums before the next month, by those before this one.
+    // The sums before the next month, given those before this one.
     pub(crate) fn past(&self, month: u64, class: Class, before: Before) -> Before
         requires sound { IsSound self.now }
         requires before { IsBefore self.now month (rank_of class) before }
@@ -226,7 +226,7 @@ impl Rows {
         sums
     }
 
-    // Makes rows for these months, and all between them and the rows that are there.
+    // Makes rows for these months, and for all months between them and the existing rows.
     pub(crate) fn reserve(&mut self, from: u64, to: u64) -> Result<(), AllocError>
         requires order { from ≤ to }
         requires to { to < months }
@@ -240,7 +240,7 @@ impl Rows {
         self.end_later(to)
     }
 
-    // Lets the rows begin in this month or an earlier one.
+    // Makes the rows begin in this month or an earlier one.
     #[tactic(auto, using(crate::proofs::Places::kept_nowhere))]
     fn begin_by(&mut self, from: u64) -> Result<(), AllocError>
         requires from { from < months }
@@ -260,7 +260,7 @@ impl Rows {
         Ok(())
     }
 
-    // Puts rows in front, so that the first is that of this month.
+    // Adds rows in front, up to this month.
     fn begin_earlier(&mut self, from: u64) -> Result<(), AllocError>
         requires earlier { from < self.old.first }
         requires run { self.old.first + length self.old.rows.items ≤ months }
@@ -279,7 +279,7 @@ impl Rows {
         Ok(())
     }
 
-    // Puts rows behind, until this month has one.
+    // Adds rows at the end, up to this month.
     fn end_later(&mut self, to: u64) -> Result<(), AllocError>
         requires to { to < months }
         requires run { self.old.first + length self.old.rows.items ≤ months }
@@ -298,7 +298,7 @@ impl Rows {
     }
 }
 
-// Writes what is kept of a class in a row.
+// Writes what is kept for a class in a row.
 fn place(row: &mut [Numbers; 6], class: Class, kept: Numbers)
     ensures classes { length row.old ≡ 6 }
     ensures row { row.new ≡ slice_set row.old (rank_of class) kept }
@@ -306,7 +306,7 @@ fn place(row: &mut [Numbers; 6], class: Class, kept: Numbers)
     row[rank(class) as usize] = kept;
 }
 
-// The numbers of so many bytes.
+// The numbers of this many bytes.
 fn weighed(bytes: u64, each: &Numbers) -> Numbers
     requires { IsShort each.now }
     ensures { result ≡ weighed bytes each.now }
@@ -322,7 +322,7 @@ fn weighed(bytes: u64, each: &Numbers) -> Numbers
     }
 }
 
-// What each byte of a stay without an end counts that began so many milliseconds after the month's start.
+// What each byte counts of a stay without an end; `ms` is from the month's start to its beginning.
 pub(crate) fn running_each(ms: u64) -> Numbers
     ensures { result ≡ running_each ms }
 {
@@ -333,7 +333,8 @@ pub(crate) fn running_each(ms: u64) -> Numbers
     }
 }
 
-// What each byte of a stay that has ended counts in the month in which it began, so many milliseconds before its end.
+// What each byte counts of a stay that has ended, in the month in which it began; `ms` is from its beginning to the
+// month's end.
 pub(crate) fn arrived_each(ms: u64) -> Numbers
     ensures { result ≡ arrived_each ms }
 {
@@ -344,7 +345,8 @@ pub(crate) fn arrived_each(ms: u64) -> Numbers
     }
 }
 
-// What each of its bytes counts in the month in which it ended, so many milliseconds after its start.
+// What each byte counts of a stay that has ended, in the month in which it ended; `ms` is from the month's start to its
+// end.
 pub(crate) fn departed_each(ms: u64) -> Numbers
     ensures { result ≡ departed_each ms }
 {
