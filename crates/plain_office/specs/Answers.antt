@@ -23,50 +23,50 @@ use Rattle.plain_office.specs.Charges.{tariff_for, report_lines}
 pub use Rattle.plain_office.specs.Charges.{class_meters}
 use Rattle.plain_office.specs.Step.{account_at, refuse_if, shown_action}
 
--- ---- what a bucket tells of itself
+-- ---- what a bucket shows
 
--- how many rules it has
+-- the number of rules of a configuration; 0 without one
 abbrev pub rule_count : Option Configuration → ℕ
 rule_count None = 0
 rule_count (Some rules) = length rules.rules
 
--- what stands in a bucket, by numbers
+-- the reply with a bucket's versioning and the numbers of its rules, uploads and versions
 abbrev pub bucket_shown : List ℕ → Account → Reply
 bucket_shown name account =
     let bucket = account.bucket in
     BucketShown name (rule_count bucket.rules) (length bucket.uploads) bucket.versioning (version_count bucket)
 
--- its lifecycle configuration
+-- the reply with a bucket's lifecycle configuration; refused if it has none
 abbrev pub rules_told : BucketRecord → Result Reply Refusal
 rules_told bucket = ok_or bucket.rules NoRules >>= λ rules. Ok (RulesShown rules)
 
--- the versions of a key
+-- the reply with the versions of a key; refused if it has none
 abbrev pub stack_told : List ℕ → BucketRecord → Result Reply Refusal
 stack_told key bucket = ok_or (at_name key bucket.stacks) NoSuchKey >>= λ stack. Ok (StackShown key stack)
 
--- an upload and its parts
+-- the reply with an upload and its parts; refused if there is no such upload
 abbrev pub upload_told : ℕ → BucketRecord → Result Reply Refusal
 upload_told number bucket =
     ok_or (at_number number bucket.uploads) NoSuchUpload >>= λ upload. Ok (UploadShown number upload)
 
--- the action that an act at the moment would do
+-- the reply with the action that an act at the moment would do
 abbrev pub due_shown : ℕ → BucketRecord → Reply
 due_shown t bucket = shown (choice bucket t) where
   shown : Option Action → Reply
   shown None = NothingDue
   shown (Some action) = shown_action action None bucket
 
--- the same as an answer, which is never a refusal
+-- the same reply as a result; it is never refused
 abbrev pub due_told : ℕ → BucketRecord → Result Reply Refusal
 due_told t bucket = Ok (due_shown t bucket)
 
--- ---- what the office tells
+-- ---- what the office shows
 
--- the tariffs that were set, by their first months
+-- the reply with the tariffs, by their first months; refused if there are none
 abbrev pub tariffs_told : List Prices → Result Reply Refusal
 tariffs_told tariffs = refuse_if (is_empty tariffs) NoTariff (TariffShown tariffs)
 
--- the reply to a query at this moment, for a moment that is not before the last one
+-- the reply to a query at this moment; the moment must not be before the last one
 unfoldable pub answer : ℕ → Query → Office → Result Reply Refusal
 answer t (query.Bucket name) office = do
   account ← account_at name office

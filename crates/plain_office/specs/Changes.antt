@@ -24,33 +24,33 @@ use Rattle.plain_office.specs.Books.{with_stay, with_end, with_version, without_
 
 -- ---- stacks
 
--- the stack of a key, or one without versions, of which no moment counts
+-- the stack of a key; if there is none, a stack without versions, whose moment has no meaning
 abbrev pub stack_at : List ℕ → BucketRecord → StackRecord
 stack_at key bucket = unwrap_or (at_name key bucket.stacks) (new_stack 0)
 
--- the versions of a key, newest first, and none where it has no stack
+-- the versions of a key, newest first; none if it has no stack
 abbrev pub versions_of : List ℕ → BucketRecord → List Version
 versions_of key bucket = (stack_at key bucket).versions
 
--- the key has this stack; a stack without versions is removed
+-- the stacks in which the key has this stack; a stack without versions is removed
 abbrev pub stacks_with : List ℕ → StackRecord → List (List ℕ × StackRecord) → List (List ℕ × StackRecord)
 stacks_with key stack stacks = if is_empty stack.versions then without_name key stacks else with_name key stack stacks
 
--- the bucket in which the key has this stack, or no stack where this one has no versions
+-- the bucket in which the key has this stack; a stack without versions is removed
 abbrev pub with_stack : List ℕ → StackRecord → BucketRecord → BucketRecord
 with_stack key stack bucket = record bucket { stacks = stacks_with key stack bucket.stacks }
 
--- the id that the bucket's next version has
+-- the id of the bucket's next version
 abbrev pub next_id : BucketRecord → VersionId
 next_id bucket = new_id bucket.versioning bucket.next_version
 
--- only in an Enabled bucket a version takes a number
+-- the next number after a version was put; only in an Enabled bucket a version takes a number
 abbrev pub number_after : Versioning → ℕ → ℕ
 number_after Unversioned number = number
 number_after Enabled number = number + 1
 number_after Suspended number = number
 
--- a new version comes to the top of the key's stack, and the null version that it replaces goes (S3 User Guide,
+-- a new version is put on top of the key's stack, and the null version that it replaces is removed (S3 User Guide,
 -- "Adding objects to versioning-enabled buckets", "Adding objects to versioning-suspended buckets")
 abbrev pub add_version : List ℕ → Kind → ℕ → Account → Account
 add_version key kind at account =
@@ -65,7 +65,7 @@ add_version key kind at account =
           (without_option key (replaced bucket.versioning stack.versions) at account.books);
     }
 
--- the version with this id goes (S3 User Guide, "Deleting object versions from a versioning-enabled bucket")
+-- the version with this id is removed (S3 User Guide, "Deleting object versions from a versioning-enabled bucket")
 abbrev pub remove_version : List ℕ → VersionId → ℕ → Account → Account
 remove_version key id at account =
     let stack = stack_at key account.bucket in
@@ -74,7 +74,7 @@ remove_version key id at account =
       books = without_option key (version_at id stack.versions) at account.books;
     }
 
--- a version leaves its class: its stay there ends, the one in the other class begins, and the move is counted
+-- the books after a version moves: its stay in the old class ends, one in the new class begins, and the move is counted
 abbrev pub books_moved : List ℕ → Option Version → Class → ℕ → Books → Books
 books_moved key None to at books = books
 books_moved key (Some version) to at books =
@@ -92,12 +92,12 @@ move_version key id to at account =
 
 -- ---- uploads
 
--- the bucket in which the number has this upload
+-- the bucket with this upload under the number
 abbrev pub with_upload : ℕ → UploadRecord → BucketRecord → BucketRecord
 with_upload number upload bucket = record bucket { uploads = with_number number upload bucket.uploads }
 
--- a part comes, and the one with its number goes (S3 User Guide, "Uploading and copying objects using multipart
--- upload")
+-- a part is put, and replaces the one with the same number (S3 User Guide, "Uploading and copying objects using
+-- multipart upload")
 abbrev pub add_part : ℕ → UploadRecord → ℕ → ℕ → ℕ → Account → Account
 add_part number upload part size at account =
     record {
@@ -106,7 +106,7 @@ add_part number upload part size at account =
           (with_end upload.key (of_part number part) at account.books);
     }
 
--- an upload goes with all its parts (S3 User Guide, "Aborting a multipart upload")
+-- an upload is removed with all its parts (S3 User Guide, "Aborting a multipart upload")
 abbrev pub remove_upload : ℕ → UploadRecord → ℕ → Account → Account
 remove_upload number upload at account =
     record {
@@ -114,7 +114,7 @@ remove_upload number upload at account =
       books = fold (λ books part. with_end upload.key (of_part number part.0) at books) account.books upload.parts;
     }
 
--- the upload with this number goes, where it is there
+-- the upload with this number is removed, if there is one
 abbrev pub remove_upload_at : ℕ → ℕ → Account → Account
 remove_upload_at number at account = gone (at_number number account.bucket.uploads) where
   gone : Option UploadRecord → Account
@@ -123,8 +123,9 @@ remove_upload_at number at account = gone (at_number number account.bucket.uploa
 
 -- ---- lifecycle actions
 
--- what a lifecycle action does, at the moment at which it stands (S3 User Guide, "Managing the lifecycle of objects";
--- own: it stands there whenever it is done); no action has another kind and target than these
+-- what a lifecycle action does, at the moment at which it takes effect (S3 User Guide, "Managing the lifecycle of
+-- objects"). Own: that moment is the same whenever the action is done. Every action has one of these pairs of a kind
+-- and a target.
 unfoldable pub effect : Action → Account → Account
 effect chosen account = done chosen.kind chosen.target where
   done : ActionKind → Target → Account

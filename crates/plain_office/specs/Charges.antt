@@ -16,14 +16,14 @@ use Rattle.office_types.specs.declared.reply.Price.TheVariants.{One, Tiered}
 use Rattle.office_types.specs.declared.reply.ReportLine.{ReportLine}
 use Rattle.plain_office.specs.Office.{Office, book_of}
 
--- what a line tells of the tiers of a class: the price of one, and of several only that there are several (own)
+-- the price in a line: that of a single tier; for several tiers only that there are several (own)
 abbrev pub price_told : List Tier → Price
 price_told (tier ∷ []) = One tier.price
 price_told tiers = Tiered
 
--- a quantity of byte-milliseconds (S3 User Guide, "Understanding your AWS billing and usage reports for Amazon
--- S3"), also an early one, at the prices of storage: it goes through the tiers of the class by itself, from the first on
--- (own)
+-- a line for byte-milliseconds, stored or early, at the prices of storage (S3 User Guide, "Understanding your AWS
+-- billing and usage reports for Amazon S3"). Own: each quantity fills the tiers of the class separately, from the
+-- first.
 abbrev pub storage_line : LineKind → Prices → ℕ → List ℕ → Class → ℕ → ReportLine
 storage_line kind tariff month name class quantity = let tiers = storage_tiers tariff class in record {
   bucket = name;
@@ -34,8 +34,8 @@ storage_line kind tariff month name class quantity = let tiers = storage_tiers t
   charge = charge_of quantity tiers month;
 }
 
--- lifecycle transitions to a class, at its price for them (S3 User Guide, "Transitioning objects using Amazon S3
--- Lifecycle")
+-- a line for lifecycle transitions to a class, at its price for them (S3 User Guide, "Transitioning objects using
+-- Amazon S3 Lifecycle")
 abbrev pub transition_line : Prices → List ℕ → Class → ℕ → ReportLine
 transition_line tariff name class moves = let price = move_price tariff class in record {
   bucket = name;
@@ -46,8 +46,8 @@ transition_line tariff name class moves = let price = move_price tariff class in
   charge = move_charge_of moves price;
 }
 
--- what was used of one class, as seen at the moment (S3 User Guide, "Understanding your AWS billing and usage reports
--- for Amazon S3")
+-- what a bucket used of one class in a month, as seen at the moment (S3 User Guide, "Understanding your AWS billing and
+-- usage reports for Amazon S3")
 abbrev pub class_meters : ℕ → ℕ → Book → Class → ClassMeters
 class_meters month t book class = record {
   class = class;
@@ -56,11 +56,11 @@ class_meters month t book class = record {
   moves = move_count month class book;
 }
 
--- the quantity of the line is not 0, whatever its charge is
+-- the quantity of the line is not 0; its charge may be 0
 abbrev pub has_quantity : ReportLine → Bool
 has_quantity line = not (line.quantity == 0)
 
--- the lines of what a bucket used of a class: those whose quantity is not 0 (own)
+-- the lines for what a bucket used of a class, without those whose quantity is 0 (own)
 abbrev pub metered_lines : Prices → ℕ → List ℕ → ClassMeters → List ReportLine
 metered_lines tariff month name used = filter has_quantity (
     storage_line Storage tariff month name used.class used.byte_ms
@@ -72,11 +72,11 @@ metered_lines tariff month name used = filter has_quantity (
 abbrev pub class_lines : Prices → ℕ → ℕ → List ℕ → Book → Class → List ReportLine
 class_lines tariff month t name book class = metered_lines tariff month name (class_meters month t book class)
 
--- the tariff in force in a month: of those set, the last by first months whose first month is not after it (own)
+-- the tariff in force in a month: the one with the latest first month that is not after it (own)
 abbrev pub in_force : ℕ → List Prices → Option Prices
 in_force month tariffs = find (λ tariff. nat_le tariff.from month) (reverse tariffs)
 
--- the tariff of a closing, or else the one in force
+-- the tariff of a closing, if there is one; else the one in force
 abbrev pub kept_or : Option Prices → Option Prices → Option Prices
 kept_or None tariff = tariff
 kept_or (Some kept) tariff = Some kept

@@ -1,4 +1,4 @@
--- What the office holds of each kind that has a limit (own: the limits keep every sum of the meters below 2^128).
+-- How much the office has of each kind that has a limit (own: the limits keep every sum of the meters below 2^128).
 use Rattle.std.specs.Prelude.{ℕ, ◌+◌, List, length, sum_by, Option, Some, None, find, nat_lt}
 use Rattle.office_base.specs.Tags.{Tag}
 use Rattle.rules_core.specs.Configurations.{Configuration}
@@ -11,7 +11,7 @@ use Rattle.office_types.specs.declared.refusal.What.{What}
 use Rattle.office_types.specs.declared.refusal.What.TheVariants.{Buckets, Versions, Uploads, Parts, Names, Rules, Tariffs}
 use Rattle.plain_office.specs.Office.{Account, Office}
 
--- the limit of each kind, of names and rules in bytes (own)
+-- the limit of each kind; for names and rules in bytes (own)
 abbrev pub limit_of : What → ℕ
 limit_of Buckets = 1_000
 limit_of Versions = 200_000
@@ -23,7 +23,7 @@ limit_of Tariffs = 100
 
 -- ---- in a bucket
 
--- the bytes of tags, keys and values
+-- the bytes of the keys and values of tags
 abbrev pub tag_bytes : List Tag → ℕ
 tag_bytes tags = sum_by (λ tag. length tag.0 + length tag.1) tags
 
@@ -34,11 +34,11 @@ tag_bytes_of version = bytes version.kind where
   bytes Marker = 0
   bytes (Object size class tags entered) = tag_bytes tags
 
--- versions with delete markers
+-- the number of versions, including delete markers
 abbrev pub version_count : BucketRecord → ℕ
 version_count bucket = sum_by (λ stack. length stack.1.versions) bucket.stacks
 
--- the parts of all unfinished uploads
+-- the number of parts of all unfinished uploads
 abbrev pub part_count : BucketRecord → ℕ
 part_count bucket = sum_by (λ upload. length upload.1.parts) bucket.uploads
 
@@ -48,7 +48,7 @@ name_bytes bucket =
     sum_by (λ stack. length stack.0 + sum_by tag_bytes_of stack.1.versions) bucket.stacks
     + sum_by (λ upload. length upload.1.key + tag_bytes upload.1.tags) bucket.uploads
 
--- the bytes of the configuration's text
+-- the bytes of the configuration's text; 0 without one
 abbrev pub rules_bytes : Option Configuration → ℕ
 rules_bytes None = 0
 rules_bytes (Some rules) = length (printed rules)
@@ -59,7 +59,7 @@ rules_bytes (Some rules) = length (printed rules)
 abbrev pub over_buckets : (BucketRecord → ℕ) → Office → ℕ
 over_buckets count office = sum_by (λ (entry : List ℕ × Account). count entry.1.bucket) office.accounts
 
--- how much there is of each kind that has a limit, of names and rules in bytes
+-- how much there is of each kind that has a limit; for names and rules in bytes
 unfoldable pub count_of : What → Office → ℕ
 count_of Buckets office = length office.accounts
 count_of Versions office = over_buckets version_count office

@@ -1,5 +1,5 @@
--- The office as plain data: lists and nothing else. Moments are in milliseconds since 1970, months are counted from 0
--- for January 1970.
+-- The office as plain data, made only of lists. Moments are in milliseconds since 1970, months are counted from 0 for
+-- January 1970.
 use Rattle.std.specs.Prelude.{ℕ, List, [], map, Option, None}
 use Rattle.office_base.specs.declared.version_id.VersionId.{VersionId}
 use Rattle.tariff.specs.Prices.{Prices}
@@ -8,22 +8,22 @@ use Rattle.due_core.specs.Buckets.{BucketRecord}
 use Rattle.office_types.specs.declared.command.Command.{Command}
 use Rattle.office_types.specs.declared.reply.Reply.{Reply}
 
--- what is stored: a version by its id, or a part of an upload by both numbers
+-- a stored item: a version by its id, or a part of an upload by both numbers
 pub data Item : Type 0 where
   of_version : VersionId → Item
   of_part : ℕ → ℕ → Item
 
--- whose stay it is: an item under a key
+-- the owner of a stay: an item under a key
 pub record Label : Type 0 where
   pub key : List ℕ
   pub item : Item
 
--- a stay, with whose it is
+-- a stay with its owner
 abbrev pub Booked : Type 0
 Booked = Label × Stay
 
--- what is booked of a bucket: every stay ever opened, with whose it is, every early quantity and every move, each in
--- the order in which it was booked
+-- the books of a bucket: every stay with its owner, every early quantity and every move, each in the order in which it
+-- was booked
 pub record Books : Type 0 where
   pub stays : List Booked
   pub early : List Early
@@ -34,14 +34,14 @@ pub record Account : Type 0 where
   pub bucket : BucketRecord
   pub books : Books
 
--- a command that was accepted with a token, and the reply that it got
+-- a command that was accepted with a token, and its reply
 pub record KeptReply : Type 0 where
   pub token : List ℕ
   pub command : Command
   pub reply : Reply
 
--- the moment of the last accepted command, the tariffs that were set by their first months, the month of the first
--- accepted command, the closed months with the tariff of their closing, the buckets in the byte order of their names,
+-- the office: the moment of the last accepted command; the tariffs by their first months; the month of the first
+-- accepted command; the closed months with the tariff of their closing; the buckets in the byte order of their names;
 -- and the kept replies, oldest first
 pub record Office : Type 0 where
   pub last : Option ℕ
@@ -51,7 +51,7 @@ pub record Office : Type 0 where
   pub accounts : List (List ℕ × Account)
   pub kept : List KeptReply
 
--- the books of a bucket of which nothing was booked yet
+-- the books of a bucket for which nothing was booked yet
 abbrev pub empty_books : Books
 empty_books = record { stays = []; early = []; moves = [] }
 
@@ -59,10 +59,10 @@ empty_books = record { stays = []; early = []; moves = [] }
 abbrev pub empty_office : Office
 empty_office = record { last = None; tariffs = []; first_month = None; closed = []; accounts = []; kept = [] }
 
--- the stay itself, without whose it is
+-- the stay, without its owner
 abbrev pub stay_in : Booked → Stay
 stay_in booked = booked.1
 
--- what is booked, whosever it is
+-- the books, without the owners of the stays
 abbrev pub book_of : Books → Book
 book_of books = record { stays = map stay_in books.stays; early = books.early; moves = books.moves }

@@ -1,4 +1,4 @@
--- A command that carries a token is done once: asked again with its token, it gets its first reply again.
+-- A command that carries a token is done once: sent again with its token, it gets its first reply.
 use Rattle.std.specs.Prelude.{ℕ, ◌-◌, List, [], ◌∷◌, ◌++◌, length, drop, find, Option, Some, None, Result, Ok, Err, if◌then◌else◌}
 use Rattle.std.specs.Str.{bytes_eq}
 use Rattle.office_types.specs.Commands.{kind_of, same_command}
@@ -12,15 +12,15 @@ use Rattle.plain_office.specs.Step.{step}
 
 -- ---- the kept replies
 
--- so many replies are kept (own)
+-- how many replies are kept (own)
 abbrev pub most_kept : ℕ
 most_kept = 10_000
 
--- the newest of them, where there are too many
+-- the newest of these replies, up to that number
 abbrev pub newest : List KeptReply → List KeptReply
 newest kept = drop (length kept - most_kept) kept
 
--- one more reply is kept; where there are too many then, the oldest goes
+-- the replies with one more; if there are then too many, the oldest is dropped
 abbrev pub with_reply : KeptReply → List KeptReply → List KeptReply
 with_reply reply kept = newest (kept ++ reply ∷ [])
 
@@ -28,25 +28,25 @@ with_reply reply kept = newest (kept ++ reply ∷ [])
 abbrev pub kept_at : List ℕ → List KeptReply → Option KeptReply
 kept_at token kept = find (λ one. bytes_eq token one.token) kept
 
--- the reply that is kept under the token that a command carries, if it carries one
+-- the reply that is kept under the token of a command; none if it has no token
 abbrev pub kept_for : Option (List ℕ) → Office → Option KeptReply
 kept_for None office = None
 kept_for (Some token) office = kept_at token office.kept
 
 -- ---- a step
 
--- the same command again gets its first reply again, and another one is refused (own)
+-- the same command gets its first reply again; another command is refused (own)
 abbrev pub repeated : KeptReply → Command → Result Reply Refusal
 repeated kept command =
     if same_command kept.command command then Ok kept.reply else Err (TokenReused (kind_of kept.command))
 
--- what is recalled of a token for a command: nothing where no reply is kept under it
+-- the reply that is recalled for a command; none if none is kept under its token
 abbrev pub recalled : Option KeptReply → Command → Result (Option Reply) Refusal
 recalled None command = Ok None
 recalled (Some kept) command =
     if same_command kept.command command then Ok (Some kept.reply) else Err (TokenReused (kind_of kept.command))
 
--- the reply to an accepted command is kept under the token that it carries
+-- the reply to an accepted command is kept under its token, if it has one
 abbrev pub keeping : Option (List ℕ) → Command → Office × Result Reply Refusal → Office × Result Reply Refusal
 keeping None command done = done
 keeping (Some token) command (office, Err refusal) = (office, Err refusal)
@@ -56,8 +56,8 @@ keeping (Some token) command (office, Ok reply) = (
   Ok reply,
 )
 
--- the office after a command at this moment, with a token or without, and the answer, for a moment that is not before
--- the last one and below the end of time
+-- the office after a command at this moment, with or without a token, and the answer. The moment must not be before the
+-- last one, and must be below the end of time.
 unfoldable pub step_with : ℕ → Option (List ℕ) → Command → Office → Office × Result Reply Refusal
 step_with t token command office = asked (kept_for token office) where
   asked : Option KeptReply → Office × Result Reply Refusal

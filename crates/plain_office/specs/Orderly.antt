@@ -1,4 +1,4 @@
--- What holds of every office that commands lead to.
+-- What holds for every office that commands can lead to.
 use Rattle.std.specs.Prelude.{◌≡◌, ℕ, ◌+◌, ◌<◌, ◌≤◌, Bool, true, false, List, [], ◌∷◌, map, filter, length, count_by, IsTrue, IfSome}
 use Rattle.std.specs.Prelude.{IsSome, MatchOption, Option, Some, None, option_map, option_to_list, if◌then◌else◌}
 use Rattle.std.specs.List.{AllByRecursion}
@@ -33,22 +33,23 @@ use Rattle.plain_office.specs.Once.{most_kept, kept_at}
 
 -- ---- a stack
 
--- a version's number is at least 1 and below the next one
+-- a version has no number, or a number that is at least 1 and below the next one
 abbrev pub IsNumberBelow : ℕ → VersionId → Type 0
 IsNumberBelow next Null = Unit {0}
 IsNumberBelow next (Number n) = (0 < n) × (n < next)
 
--- the version is an object, and no delete marker
+-- it is an object, not a delete marker
 abbrev pub is_object : Kind → Bool
 is_object (Object size class tags entered) = true
 is_object Marker = false
 
--- there is one version alone: the null version, which is an object
+-- there is only one version: the null version, which is an object
 abbrev pub IsOneNullObject : List Version → Type 0
 IsOneNullObject [] = ⊥
 IsOneNullObject (version ∷ others) = (others ≡ []) × (version.id ≡ Null) × IsTrue (is_object version.kind)
 
--- in an Unversioned bucket there is only the null object (S3 User Guide, "How S3 Versioning works")
+-- the versions fit the bucket's versioning: an Unversioned bucket has only the null object (S3 User Guide, "How S3
+-- Versioning works")
 abbrev pub FitsVersioning : Versioning → List Version → Type 0
 FitsVersioning Unversioned versions = IsOneNullObject versions
 FitsVersioning Enabled versions = Unit {0}
@@ -59,7 +60,7 @@ abbrev pub size_of : Kind → ℕ
 size_of (Object size class tags entered) = size
 size_of Marker = 0
 
--- as a bucket keeps it whose last accepted moment is `last` and whose next version has the number `next`
+-- a stack of a bucket whose last accepted moment is `last` and whose next version has the number `next`
 pub record IsOrderlyStack (versioning : Versioning) (next last : ℕ) (stack : StackRecord) : Type 0 where
   pub some : 0 < length stack.versions
   pub ids_and_moments : IsStack stack
@@ -70,7 +71,7 @@ pub record IsOrderlyStack (versioning : Versioning) (next last : ℕ) (stack : S
 
 -- ---- an upload
 
--- as a bucket keeps it whose last accepted moment is `last`
+-- an upload of a bucket whose last accepted moment is `last`
 pub record IsOrderlyUpload (last : ℕ) (upload : UploadRecord) : Type 0 where
   pub ranges_and_moments : IsUpload upload
   pub parts : Rises nat_cmp upload.parts
@@ -78,7 +79,7 @@ pub record IsOrderlyUpload (last : ℕ) (upload : UploadRecord) : Type 0 where
 
 -- ---- a bucket
 
--- as an office keeps it whose last accepted moment is `last`
+-- a bucket of an office whose last accepted moment is `last`
 pub record IsOrderlyBucket (last : ℕ) (bucket : BucketRecord) : Type 0 where
   pub next_version : 0 < bucket.next_version
   pub next_upload : 0 < bucket.next_upload
@@ -91,27 +92,26 @@ pub record IsOrderlyBucket (last : ℕ) (bucket : BucketRecord) : Type 0 where
 
 -- ---- the stays
 
--- the moment from which a version has its lines: an object from when it entered its class, a marker from when it was
--- made
+-- the moment from which a version has its lines: for an object when it entered its class, for a marker when it was made
 abbrev pub lines_since : Version → ℕ
 lines_since version = since version.kind where
   since : Kind → ℕ
   since (Object size class tags entered) = entered
   since Marker = version.created
 
--- the stay that a version under a key asks to be open
+-- the stay that is open for a version under a key
 abbrev pub stay_of_version : List ℕ → Version → Booked
 stay_of_version key version = (
   record { key = key; item = of_version version.id },
   open_stay (lines_of_kind key version.kind) (lines_since version),
 )
 
--- and that a part of an upload does
+-- the stay that is open for a part of an upload
 abbrev pub stay_of_part : ℕ → UploadRecord → ℕ → Part → Booked
 stay_of_part number upload place part =
     (record { key = upload.key; item = of_part number place }, open_stay (part_line upload.class part.size) part.put)
 
--- the stay that a part of this upload asks to be open under the key, and none where there is no such part
+-- the stay that is open for a part of this upload, if the upload has this key and this part; else none
 abbrev pub part_stays_expected : List ℕ → ℕ → ℕ → Option UploadRecord → List Booked
 part_stays_expected key number place None = []
 part_stays_expected key number place (Some upload) =
@@ -119,14 +119,14 @@ part_stays_expected key number place (Some upload) =
     then option_to_list (option_map (stay_of_part number upload place) (at_number place upload.parts))
     else []
 
--- the stays that the records ask to be open under a key for an item: one where the version or part is there
+-- the stays that are open for an item under a key, by the records: one if there is such a version or part, else none
 abbrev pub stays_expected : BucketRecord → List ℕ → Item → List Booked
 stays_expected bucket key (of_version id) =
     option_to_list (option_map (stay_of_version key) (version_at id (versions_of key bucket)))
 stays_expected bucket key (of_part number place) =
     part_stays_expected key number place (at_number number bucket.uploads)
 
--- the open stays of an item are the one that its record asks for
+-- the open stays of each item in the books are those that the records give
 abbrev pub HasOpenStays : Account → Type 0
 HasOpenStays account =
     (key : List ℕ) (item : Item)
@@ -134,23 +134,23 @@ HasOpenStays account =
 
 -- ---- the office
 
--- these months are the given one and those after it, without a gap
+-- the months are consecutive, from the given one on
 abbrev pub FollowEachOther : ℕ → List ℕ → Type 0
 FollowEachOther month [] = Unit {0}
 FollowEachOther month (first ∷ others) = (first ≡ month) × FollowEachOther (month + 1) others
 
--- the first months of tariffs strictly rise, so that no two have the same
+-- the first months of the tariffs are in strictly ascending order, so no two are the same
 abbrev pub FirstMonthsRise : List Prices → Type 0
 FirstMonthsRise [] = Unit {0}
 FirstMonthsRise (tariff ∷ others) = AllByRecursion (λ other. tariff.from < other.from) others × FirstMonthsRise others
 
--- the end of the last closed month, and 0 where there is none
+-- the end of the last closed month; 0 if there is none
 abbrev pub last_end : List (ℕ × Prices) → ℕ
 last_end [] = 0
 last_end (month ∷ []) = month_end month.0
 last_end (month ∷ next ∷ others) = last_end (next ∷ others)
 
--- the end of the last closed month of the office, and 0 where none is closed
+-- the end of the office's last closed month; 0 if none is closed
 abbrev pub closed_until : Office → ℕ
 closed_until office = last_end office.closed
 
@@ -159,11 +159,11 @@ abbrev pub current_is_object : List Version → Bool
 current_is_object [] = false
 current_is_object (version ∷ others) = is_object version.kind
 
--- the stacks whose current version is an object: a lifecycle action may put a marker on each
+-- the number of stacks whose current version is an object; a lifecycle action may put a marker on each of them
 abbrev pub current_objects : BucketRecord → ℕ
 current_objects bucket = count_by (λ stack. current_is_object stack.1.versions) bucket.stacks
 
--- before the first accepted command there is nothing
+-- an office before the first accepted command is empty
 pub record IsBlank (office : Office) : Type 0 where
   pub accounts : office.accounts ≡ []
   pub tariffs : office.tariffs ≡ []
@@ -171,14 +171,14 @@ pub record IsBlank (office : Office) : Type 0 where
   pub first_month : office.first_month ≡ None
   pub kept : office.kept ≡ []
 
--- from it on there is a first month, and no moment and no closed month is above the last moment
+-- an office after it has a first month, and no moment and no closed month is after the last moment
 pub record IsOrderlyUntil (last : ℕ) (office : Office) : Type 0 where
   pub first_month : IsSome office.first_month
   pub buckets : AllByRecursion (λ account. IsOrderlyBucket last account.1.bucket) office.accounts
   pub closed : closed_until office ≤ last
 
--- all that speaks of the records: no eligible action stands before the end of the last closed month, and with a
--- marker for each current object there are at most 400,000 versions
+-- the records are orderly. No eligible action takes effect before the end of the last closed month. With a marker for
+-- each current object there are at most 400,000 versions.
 pub record IsOrderlyRecords (office : Office) : Type 0 where
   pub names : Rises bytes_cmp office.accounts
   pub moments : MatchOption office.last (IsBlank office) (λ last. IsOrderlyUntil last office)
@@ -191,7 +191,7 @@ pub record IsOrderlyRecords (office : Office) : Type 0 where
   pub counts : AllByRecursion (λ what. count_of what office ≤ limit_of what)
       (Buckets ∷ Uploads ∷ Parts ∷ Names ∷ Rules ∷ Tariffs ∷ [])
 
--- no two are kept under one token
+-- no two kept replies have the same token
 abbrev pub TokensDiffer : List KeptReply → Type 0
 TokensDiffer [] = Unit {0}
 TokensDiffer (first ∷ kept) = (kept_at first.token kept ≡ None) × TokensDiffer kept
@@ -201,8 +201,8 @@ pub record AreKept (kept : List KeptReply) : Type 0 where
   pub few : length kept ≤ most_kept
   pub differ : TokensDiffer kept
 
--- and the open stays are those that the records ask for, no moment that is booked is above the last one, and the kept
--- replies are in order
+-- the office is orderly: its records are, the open stays are those that the records give, no booked moment is after the
+-- last one, and the kept replies are valid
 pub record IsOrderly (office : Office) : Type 0 where
   pub records : IsOrderlyRecords office
   pub stays : AllByRecursion (λ account. HasOpenStays account.1) office.accounts
@@ -210,7 +210,7 @@ pub record IsOrderly (office : Office) : Type 0 where
       AllByRecursion (λ account. IsBookedBy last (book_of account.1.books)) office.accounts)
   pub kept : AreKept office.kept
 
--- a put's size is up to the largest, as in every command of the program
+-- the size of a put is at most the largest size, as in every command of the program
 abbrev pub SizeFits : Command → Type 0
 SizeFits (command.Put name key size class tags) = size ≤ largest_size
 SizeFits other = Unit {0}

@@ -1,4 +1,4 @@
--- What each command answers and does, at a moment.
+-- What each command does and what it answers, at a moment.
 use Rattle.std.specs.Prelude.{ℕ, ◌+◌, ◌-◌, Bool, true, false, not, ◌&&◌, List, [], ◌∷◌, ◌++◌, length, filter, nat_lt, slice_get, Option, Some, None}
 use Rattle.std.specs.Prelude.{is_some, unwrap_or, option_map, Result, Ok, Err, if◌then◌else◌}
 use Rattle.std.specs.Option.{ok_or}
@@ -42,13 +42,13 @@ use Rattle.plain_office.specs.Changes.{with_stack, next_id, add_version, remove_
 use Rattle.plain_office.specs.Charges.{in_force}
 use Rattle.plain_office.specs.Counts.{limit_of, first_full}
 
--- refused where the test holds
+-- the refusal if the test holds, else the value
 abbrev pub refuse_if : {A : Type 0} → Bool → Refusal → A → Result A Refusal
 refuse_if test refusal x = if test then Err refusal else Ok x
 
--- ---- what is named has to be there
+-- ---- what a command names has to exist
 
--- the account of the bucket with this name, refused where there is none
+-- the account of the bucket with this name; refused if there is none
 abbrev pub account_at : List ℕ → Office → Result Account Refusal
 account_at name office = ok_or (at_name name office.accounts) NoSuchBucket
 
@@ -56,15 +56,15 @@ account_at name office = ok_or (at_name name office.accounts) NoSuchBucket
 abbrev pub has_stack : List ℕ → Account → Bool
 has_stack key account = is_some (at_name key account.bucket.stacks)
 
--- the stack of a key, refused where it has none
+-- the stack of a key; refused if it has none
 abbrev pub stack_in : List ℕ → Account → Result StackRecord Refusal
 stack_in key account = ok_or (at_name key account.bucket.stacks) NoSuchKey
 
--- the upload with this number, refused where there is none
+-- the upload with this number; refused if there is none
 abbrev pub upload_in : ℕ → Account → Result UploadRecord Refusal
 upload_in number account = ok_or (at_number number account.bucket.uploads) NoSuchUpload
 
--- what a stack refuses
+-- the result of a stack's call, with the office's refusals
 abbrev pub of_stack : {X : Type 0} → Result X StackRefusal → Result X Refusal
 of_stack (Ok x) = Ok x
 of_stack (Err stack.NoSuchVersion) = Err NoSuchVersion
@@ -82,8 +82,8 @@ is_unversioned Unversioned = true
 is_unversioned Enabled = false
 is_unversioned Suspended = false
 
--- (S3 User Guide, "Using versioning in S3 buckets": once enabled, versioning is suspended, and never taken back; own:
--- it is suspended only where it was enabled before)
+-- sets a bucket's versioning (S3 User Guide, "Using versioning in S3 buckets": once enabled, versioning can only be
+-- suspended). Own: it can be suspended only if it was enabled before.
 abbrev pub set_versioning : ℕ → Bool → Account → Change
 set_versioning t enabled account =
     let versioning = if enabled then Enabled else Suspended in
@@ -92,25 +92,26 @@ set_versioning t enabled account =
       VersioningSet versioning,
     )
 
--- a bucket gets this configuration at the moment, or is left without one
+-- the account with this configuration, or without one, from the moment on
 abbrev pub with_rules : ℕ → Option Configuration → Account → Account
 with_rules t rules account = record account { bucket = record account.bucket { rules = rules; rules_since = t } }
 
--- (S3 User Guide, "Setting an S3 Lifecycle configuration on a bucket": a configuration replaces the one before)
+-- sets a configuration (S3 User Guide, "Setting an S3 Lifecycle configuration on a bucket": it replaces the one before)
 abbrev pub set_rules : ℕ → Configuration → Account → Change
 set_rules t rules account = Ok (with_rules t (Some rules) account, RulesSet (length rules.rules))
 
--- (own: refused where there is none)
+-- drops a bucket's configuration (own: refused if it has none)
 abbrev pub drop_rules : ℕ → Account → Change
 drop_rules t account = refuse_if (not (is_some account.bucket.rules)) NoRules (with_rules t None account, RulesSet 0)
 
--- (S3 User Guide, "Uploading objects")
+-- puts an object (S3 User Guide, "Uploading objects")
 abbrev pub put_object : ℕ → List ℕ → ℕ → Class → List Tag → Account → Change
 put_object t key size class tags account =
     Ok (add_version key (kind.Object size class tags t) t account, Stored t (next_id account.bucket))
 
--- without versioning the null version goes (own: refused where the key has none); else a delete marker comes (S3 User
--- Guide, "Working with delete markers", "Deleting objects from versioning-suspended buckets")
+-- deletes a key. Without versioning the null version is removed (own: refused if the key has no versions). Else a
+-- delete marker is put (S3 User Guide, "Working with delete markers", "Deleting objects from versioning-suspended
+-- buckets").
 abbrev pub delete : ℕ → List ℕ → Account → Change
 delete t key account = by_versioning account.bucket.versioning where
   by_versioning : Versioning → Change
@@ -118,36 +119,36 @@ delete t key account = by_versioning account.bucket.versioning where
       refuse_if (not (has_stack key account)) NoSuchKey (remove_version key Null t account, Deleted None)
   by_versioning kept = Ok (add_version key kind.Marker t account, Deleted (Some (next_id account.bucket)))
 
--- (S3 User Guide, "Deleting object versions from a versioning-enabled bucket")
+-- removes a version (S3 User Guide, "Deleting object versions from a versioning-enabled bucket")
 abbrev pub delete_version : ℕ → List ℕ → VersionId → Account → Change
 delete_version t key id account = do
   stack ← stack_in key account
   version ← of_stack (found id stack.versions)
   Ok (remove_version key id t account, VersionDeleted id)
 
--- (S3 User Guide, "Categorizing your objects using tags")
+-- replaces the tags of an object (S3 User Guide, "Categorizing your objects using tags")
 abbrev pub set_tags : ℕ → List ℕ → VersionId → List Tag → Account → Change
 set_tags t key id tags account = do
   stack ← stack_in key account
   before ← of_stack (tags_at id stack.versions)
   Ok (record account { bucket = with_stack key (after_tags id tags t stack) account.bucket }, TagsSet (length tags))
 
--- (S3 User Guide, "Uploading and copying objects using multipart upload": initiation)
+-- starts an upload (S3 User Guide, "Uploading and copying objects using multipart upload": initiation)
 abbrev pub start_upload : ℕ → List ℕ → Class → List Tag → Account → Change
 start_upload t key class tags account =
     let number = account.bucket.next_upload in
     let bucket = with_upload number (new_upload key class tags t) account.bucket in
     Ok (record account { bucket = record bucket { next_upload = number + 1 } }, UploadStarted number)
 
--- (S3 User Guide, "Uploading and copying objects using multipart upload": parts upload)
+-- puts a part of an upload (S3 User Guide, "Uploading and copying objects using multipart upload": parts upload)
 abbrev pub put_part : ℕ → ℕ → ℕ → ℕ → Account → Change
 put_part t number part size account = do
   upload ← upload_in number account
   refuse_if (not (admits_part part (new_part size t) upload.parts)) BadPart
       (add_part number upload part size t account, PartStored part)
 
--- the parts go, and an object of all their bytes comes (S3 User Guide, "Uploading and copying objects using multipart
--- upload": completion; own: it is created then)
+-- completes an upload: it is removed with its parts, and an object of their total size is put (S3 User Guide,
+-- "Uploading and copying objects using multipart upload": completion; own: this is the moment of its creation)
 abbrev pub complete : ℕ → ℕ → Account → Change
 complete t number account = do
   upload ← upload_in number account
@@ -155,7 +156,7 @@ complete t number account = do
       else put_object t upload.key (total_size upload.parts) upload.class upload.tags
       (remove_upload number upload t account)
 
--- (S3 User Guide, "Aborting a multipart upload")
+-- aborts an upload (S3 User Guide, "Aborting a multipart upload")
 abbrev pub abort : ℕ → ℕ → Account → Change
 abort t number account = do
   upload ← upload_in number account
@@ -163,22 +164,22 @@ abort t number account = do
 
 -- ---- lifecycle actions
 
--- the id of the rule at this place, from 1
+-- the id of the rule at this place, from 1; empty if there is none
 abbrev pub rule_id : Option Configuration → ℕ → List ℕ
 rule_id None place = []
 rule_id (Some rules) place = unwrap_or (option_map (λ (rule : Rule). rule.id) (slice_get rules.rules (place - 1))) []
 
--- the marker that the action makes
+-- the marker that an action puts; none for other kinds
 abbrev pub marker_made : ActionKind → BucketRecord → Option VersionId
 marker_made action.Marker bucket = Some (next_id bucket)
 marker_made kind bucket = None
 
--- the reply that tells of an action, and of the marker that it made, if any
+-- the reply with an action, and with the marker that it put, if any
 abbrev pub shown_action : Action → Option VersionId → BucketRecord → Reply
 shown_action action marker bucket =
     Chosen action.kind action.key action.target (rule_id bucket.rules action.rule) action.since marker
 
--- the choice is done (S3 User Guide, "Managing the lifecycle of objects")
+-- does the bucket's choice at the moment (S3 User Guide, "Managing the lifecycle of objects")
 abbrev pub act : ℕ → Account → Change
 act t account = done (choice account.bucket t) where
   done : Option Action → Change
@@ -192,26 +193,26 @@ act t account = done (choice account.bucket t) where
 abbrev pub Outcome : Type 0
 Outcome = Result (Office × Reply) Refusal
 
--- a change of one bucket
+-- the outcome of a change of one bucket; refused if there is no such bucket
 abbrev pub on_bucket : List ℕ → (Account → Change) → Office → Outcome
 on_bucket name change office = do
   account ← account_at name office
   done ← change account
   Ok (record office { accounts = with_name name done.0 office.accounts }, done.1)
 
--- what a command did, refused where a count is above its limit
+-- the outcome of a command; refused if a count is above its limit
 abbrev pub unless_full : Option What → Office × Reply → Outcome
 unless_full None done = Ok done
 unless_full (Some what) done = Err (Full what (limit_of what))
 
--- refused where one of these counts is above its limit afterwards (own: also where the command leaves it as it was)
+-- the outcome, refused if one of these counts is above its limit afterwards (own: also if the command does not change
+-- that count)
 abbrev pub within_limits : List What → Outcome → Outcome
 within_limits whats outcome = do
   done ← outcome
   unless_full (first_full whats done.0) done
 
--- a bucket as it is made: without versioning, rules, versions and uploads (S3 User Guide, "Creating a general purpose
--- bucket")
+-- a new bucket: without versioning, rules, versions and uploads (S3 User Guide, "Creating a general purpose bucket")
 abbrev pub new_bucket : ℕ → BucketRecord
 new_bucket t = record {
   versioning = Unversioned;
@@ -223,31 +224,31 @@ new_bucket t = record {
   next_upload = 1;
 }
 
--- the account of a bucket as it is made: nothing is booked of it
+-- the account of a new bucket: nothing is booked for it
 abbrev pub new_account : ℕ → Account
 new_account t = record { bucket = new_bucket t; books = empty_books }
 
--- (S3 User Guide, "Creating a general purpose bucket": a name is taken once)
+-- makes a bucket (S3 User Guide, "Creating a general purpose bucket": each name is used once)
 abbrev pub create_bucket : ℕ → List ℕ → Office → Outcome
 create_bucket t name office =
     refuse_if (is_some (at_name name office.accounts)) BucketExists
     (record office { accounts = with_name name (new_account t) office.accounts }, BucketMade name)
 
--- a tariff among others by their first months, in the place of the one with the same first month (own)
+-- the tariffs with this one, in the order of their first months; it replaces the one with the same first month (own)
 abbrev pub with_tariff : Prices → List Prices → List Prices
 with_tariff tariff others =
     filter (λ other. nat_lt other.from tariff.from) others ++ tariff ∷ filter (λ other. nat_lt tariff.from other.from) others
 
--- a tariff is set: it holds from its first month on, up to the first month of the next one (own)
+-- sets a tariff: it holds from its first month on, up to the first month of the next one (own)
 abbrev pub set_tariff : Prices → Office → Outcome
 set_tariff tariff office = Ok (record office { tariffs = with_tariff tariff office.tariffs }, TariffSet)
 
--- the first month that does not count as closed (own: months before the first accepted command do, and before there
--- is one, all months before the moment's)
+-- the first month that is not closed (own). Months before the first accepted command count as closed. Before that
+-- command, so do all months before the month of the moment.
 abbrev pub month_to_close : ℕ → Office → ℕ
 month_to_close t office = unwrap_or office.first_month (month_at t) + length office.closed
 
--- the first bucket whose choice stands before a moment
+-- the first bucket whose choice takes effect before end, with that choice
 abbrev pub due_before : ℕ → ℕ → List (List ℕ × Account) → Option (List ℕ × Action)
 due_before t end [] = None
 due_before t end ((name, account) ∷ accounts) = early_or (choice account.bucket t) (due_before t end accounts) where
@@ -255,13 +256,13 @@ due_before t end ((name, account) ∷ accounts) = early_or (choice account.bucke
   early_or None others = others
   early_or (Some action) others = if nat_lt action.since end then Some (name, action) else others
 
--- what a close did, refused where an action is due in a bucket
+-- the outcome of a close; refused if an action is due in a bucket
 abbrev pub unless_due : Option (List ℕ × Action) → Office × Reply → Outcome
 unless_due None done = Ok done
 unless_due (Some (name, action)) done = Err (DueActions name action.key action.target)
 
--- months are closed in order, once they are over, once all that is due in them is done, and with the tariff in force in
--- them (own)
+-- closes a month, with the tariff in force in it (own). Months are closed in order, after they are over, and after all
+-- actions due in them are done.
 abbrev pub close : ℕ → ℕ → Office → Outcome
 close t month office =
     if nat_lt t (month_end month) then Err (MonthNotOver (month_end month))
@@ -272,15 +273,15 @@ close t month office =
       unless_due (due_before t (month_end month) office.accounts)
           (record office { closed = office.closed ++ (month, tariff) ∷ [] }, Closed month)
 
--- a delete in this bucket puts a marker, and so adds to the versions
+-- a delete in this bucket puts a marker, so it adds a version
 abbrev pub adds_marker : List ℕ → Office → Bool
 adds_marker name office = kept (at_name name office.accounts) where
   kept : Option Account → Bool
   kept None = false
   kept (Some account) = not (is_unversioned account.bucket.versioning)
 
--- what a command does, and what it is refused for, in the order of the tests; a count is tested where the command adds
--- to it (own)
+-- what a command does, or why it is refused, in the order of the tests. A limit is tested if the command may add to its
+-- count (own).
 unfoldable pub outcome : ℕ → Command → Office → Outcome
 outcome t (command.CreateBucket name) office = within_limits (Buckets ∷ []) (create_bucket t name office)
 outcome t (command.SetVersioning name enabled) office = on_bucket name (set_versioning t enabled) office
@@ -307,22 +308,22 @@ outcome t (command.Close month) office = close t month office
 
 -- ---- a step
 
--- an accepted command sets the last moment, and the first one the first month (own)
+-- an accepted command sets the last moment, and the first one also sets the first month (own)
 abbrev pub accepted : ℕ → Office → Office
 accepted t office = record office { last = Some t; first_month = Some (unwrap_or office.first_month (month_at t)) }
 
--- a refused command leaves the office, and so does an act that found nothing due (own)
+-- a refused command does not change the office; nor does an act that finds nothing due (own)
 abbrev pub settled : ℕ → Office → Outcome → Office × Result Reply Refusal
 settled t before (Err refusal) = (before, Err refusal)
 settled t before (Ok (after, NothingDue)) = (before, Ok NothingDue)
 settled t before (Ok (after, reply)) = (accepted t after, Ok reply)
 
--- the office after a command without a token at this moment, and the answer, for a moment that is not before the last
--- one and below the end of time
+-- the office after a command without a token at this moment, and the answer. The moment must not be before the last
+-- one, and must be below the end of time.
 unfoldable pub step : ℕ → Command → Office → Office × Result Reply Refusal
 step t command office = settled t office (outcome t command office)
 
--- accepted is what is answered by Ok, but for an act that found nothing due
+-- the answer is that of an accepted command: any reply except that nothing is due
 abbrev pub is_accepted : Result Reply Refusal → Bool
 is_accepted (Err refusal) = false
 is_accepted (Ok NothingDue) = false

@@ -1,4 +1,4 @@
-//! The office as plain data, and what each command does to it. Every program of the repository is proved against these
+//! The office as plain data, and what each command does to it. Each program of the repository is proved to meet these
 //! definitions.
 #![tactic(auto)]
 
