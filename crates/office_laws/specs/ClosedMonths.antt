@@ -1,4 +1,4 @@
--- A closed month, as it is seen before and after later commands.
+-- A closed month, before and after later commands.
 use Rattle.std.specs.Prelude.{◌≡◌, ℕ, ◌≤◌, IsSome}
 use Rattle.moments.specs.Months.{month_end}
 use Rattle.class_rules.specs.declared.class.Class.{Class}
@@ -8,14 +8,14 @@ use Rattle.accrual.specs.Meters.{meter, early_quantity, move_count}
 use Rattle.plain_office.specs.Office.{Office}
 use Rattle.plain_office.specs.Orderly.{IsOrderly}
 
--- a Close closed the month in this office, and it is looked at from its end on: at the moment u now, and at v later
+-- the month is closed in this office, and the moments u (now) and v (later) are not before its end
 pub record IsClosedMonth (month u v : ℕ) (office : Office) : Type 0 where
   pub orderly : IsOrderly office
   pub closed : IsSome (at_number month office.closed)
   pub over_now : month_end month ≤ u
   pub over_later : month_end month ≤ v
 
--- what is read of a class in the month is the same of both books, seen at u and at v
+-- the readings of a class in the month are the same in both books, at u and at v
 pub record ReadsSame (month : ℕ) (class : Class) (u v : ℕ) (before after : Book) : Type 0 where
   pub meter_stays : meter month class v after ≡ meter month class u before
   pub early_stays : early_quantity month class after ≡ early_quantity month class before

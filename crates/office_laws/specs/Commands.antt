@@ -1,4 +1,4 @@
--- What commands ask, and of which bucket.
+-- The buckets and sizes of commands.
 use Rattle.std.specs.Prelude.{◌≡◌, ℕ, ◌≤◌, ◌⊎◌, List, Option, Some, None}
 use Rattle.std.specs.List.{AllByRecursion}
 use Rattle.office_types.specs.declared.command.Command.{Command}
@@ -32,6 +32,6 @@ bucket_of (command.Close month) = None
 abbrev pub IsElsewhere : List ℕ → Command → Type 0
 IsElsewhere name c = bucket_of c ≡ Some name → ⊥
 
--- the entry does nothing to the bucket, or it is an act on it by the moment u
+-- the entry names another bucket or none, or is an act on the bucket no later than the moment u
 abbrev pub OnlyActs : List ℕ → ℕ → Entry → Type 0
 OnlyActs name u entry = IsElsewhere name entry.command ⊎ ((entry.command ≡ command.Act name) × (entry.moment ≤ u))

@@ -3,7 +3,7 @@ use Rattle.std.specs.Prelude.{◌≡◌, ℕ, ◌≤◌, List, ◌∷◌, ◌++�
 use Rattle.std.specs.List.{AllByRecursion}
 use Rattle.tariff.specs.Prices.{Prices}
 
--- of those set, the one with the greatest first month that is not after the month (own)
+-- the tariff is among these, and is the one with the latest first month that is not after the month (own)
 pub record IsInForce (month : ℕ) (tariff : Prices) (tariffs : List Prices) : Type 0 where
   pub earlier : List Prices
   pub later : List Prices

@@ -1,4 +1,4 @@
--- The replies that are kept in a history.
+-- The kept replies of a history.
 use Rattle.std.specs.Prelude.{◌≡◌, ℕ, Bool, false, not, List, ◌∷◌, ◌++◌, count_by, Option, Some, None, Ok}
 use Rattle.std.specs.Str.{bytes_eq}
 use Rattle.office_types.specs.declared.command.Entry.{Entry}
@@ -6,7 +6,7 @@ use Rattle.plain_office.specs.Office.{Office, KeptReply}
 use Rattle.plain_office.specs.Run.{run}
 use Rattle.plain_office.specs.Step.{step}
 
--- the entry carries a token, and another one than this
+-- the entry carries a token other than this one
 abbrev pub carries_other : List ℕ → Entry → Bool
 carries_other token entry = is_other entry.token where
   is_other : Option (List ℕ) → Bool
@@ -17,7 +17,7 @@ carries_other token entry = is_other entry.token where
 abbrev pub other_tokens : List ℕ → List Entry → ℕ
 other_tokens token entries = count_by (carries_other token) entries
 
--- the reply is that to an entry of the history with its token, at the place of the entry
+-- the kept reply is the one that an entry of the history with its token got
 pub record IsReplyIn (entries : List Entry) (kept : KeptReply) : Type 0 where
   pub front : List Entry
   pub entry : Entry

@@ -1,4 +1,4 @@
-// What holds of every office, as calls that do nothing.
+// Laws of every office, as functions that do nothing.
 ghost use Rattle.std.specs.Prelude.{◌≡◌, ◌↔◌, ℕ, ◌<◌, ◌≤◌, ◌++◌, ◌∷◌, List, [], Option, Some, None, Ok, true, filter, is_none};
 ghost use Rattle.std.specs.List.{AllByRecursion};
 ghost use Rattle.office_base.specs.Maps.{at_name, at_number};
@@ -33,8 +33,8 @@ ghost use Rattle.office_laws.specs.ClosedMonths.{IsClosedMonth, ReadsSame};
 ghost use Rattle.office_laws.specs.Bound.{most_actions, HasSweepWithin};
 ghost use Rattle.office_laws.specs.Tariffs.{IsInForce};
 
-/// States that the empty office is orderly, that each command keeps an office orderly, with a token or without, and that
-/// so does each run.
+/// States that the empty office is orderly, and that each command, with or without a token, keeps an office orderly. So
+/// the office after each run is orderly.
 pub fn steps_are_orderly()
     ensures begins { IsOrderly empty_office }
     ensures keeps { (t : ℕ) (token : Option (List ℕ)) (c : Command) (p : Office)
@@ -42,8 +42,8 @@ pub fn steps_are_orderly()
     ensures runs { (entries : List Entry) (p : Office) → SizesFit entries → run entries ≡ Some p → IsOrderly p }
 {}
 
-/// States that each open stay is the one that the records ask for under its key and item, and that each version and
-/// each part has exactly one.
+/// States that each open stay is the one that the records give for its key and item, and that each version and each
+/// part has exactly one.
 pub fn open_stays_are_those_of_the_records()
     ensures asked { (account : Account) (front back : List Booked) (stay : Booked)
         → HasOpenStays account → account.books.stays ≡ front ++ stay ∷ back → is_none stay.1.to ≡ true
@@ -58,8 +58,8 @@ pub fn open_stays_are_those_of_the_records()
         ≡ stay_of_part number upload place part ∷ [] }
 {}
 
-/// States that a closed month stays closed, with its tariff, and that no later command changes what is answered of its
-/// meters, early quantities and moves, nor its report.
+/// States that a closed month stays closed, with its tariff. No later command changes its meters, early quantities,
+/// moves and report.
 ///
 /// Own rule: a month is closed by a command.
 pub fn closed_months_stay()
@@ -81,7 +81,7 @@ pub fn closed_months_stay()
         → answer v (query.Report month) (step_with t token c p).0 ≡ answer u (query.Report month) p }
 {}
 
-/// States the same of any number of later commands.
+/// States the same for any number of later commands.
 pub fn closed_months_stay_for_good()
     ensures meters { (entries : List Entry) (u v : ℕ) (p q : Office) (month : ℕ) (name : List ℕ) (account : Account)
         → SizesFit entries → run_from (Some p) entries ≡ Some q → IsClosedMonth month u v p
@@ -92,8 +92,8 @@ pub fn closed_months_stay_for_good()
         → answer v (query.Report month) q ≡ answer u (query.Report month) p }
 {}
 
-/// States that the tariff in force in a month is, of those set, the one with the greatest first month that is not after
-/// the month, and that where none is in force each of them begins later.
+/// States that the tariff in force in a month is the one with the latest first month that is not after the month. If
+/// none is in force, all tariffs begin later.
 ///
 /// Own rule: a tariff holds from its first month on, up to the first month of the next one.
 #[tactic(auto, using(crate::proofs::Tariffs::none_holds))]
@@ -104,14 +104,14 @@ pub fn the_latest_tariff_is_in_force()
         → AllByRecursion (λ other. month < other.from) p.tariffs }
 {}
 
-/// States that a command leaves every bucket that it does not name, records and books.
+/// States that a command does not change the records and books of any bucket that it does not name.
 pub fn other_buckets_stay()
     ensures { (t : ℕ) (token : Option (List ℕ)) (c : Command) (p : Office) (name : List ℕ) → IsElsewhere name c
         → at_name name (step_with t token c p).0.accounts ≡ at_name name p.accounts }
 {}
 
-/// States that an act does the choice and answers it, and that an act and the question what is due answer that nothing
-/// is due exactly where there is no candidate.
+/// States that an act does the choice and replies with it. An act and the query for what is due reply that nothing is
+/// due if and only if there is no candidate.
 ///
 /// Rule: S3 User Guide, "Managing the lifecycle of objects".
 pub fn an_act_does_the_choice()
@@ -128,8 +128,8 @@ pub fn an_act_does_the_choice()
         → (answer t (query.Due name) p ≡ Ok NothingDue) ↔ (candidates account.bucket t ≡ []) }
 {}
 
-/// States that where an act answers that nothing is due, the sweep at that moment does nothing, and the office is as
-/// before.
+/// States that if an act replies that nothing is due, the sweep at that moment does nothing, and the office is
+/// unchanged.
 pub fn nothing_due_is_the_empty_sweep()
     ensures swept { (t : ℕ) (p : Office) (name : List ℕ) (account : Account)
         → at_name name p.accounts ≡ Some account → (step t (command.Act name) p).1 ≡ Ok NothingDue
@@ -139,8 +139,8 @@ pub fn nothing_due_is_the_empty_sweep()
         → (step t (command.Act name) p).0 ≡ p }
 {}
 
-/// States that each bucket of an orderly office has a sweep at each moment, of no more actions than the bound, and only
-/// one.
+/// States that each bucket of an orderly office has exactly one sweep at each moment, and that its number of actions is
+/// within the bound.
 pub fn every_sweep_ends()
     ensures ends { (u : ℕ) (p : Office) (name : List ℕ) (account : Account)
         → IsOrderly p → at_name name p.accounts ≡ Some account
@@ -149,15 +149,15 @@ pub fn every_sweep_ends()
         → IsSwept u actions before after → IsSwept u others before end → (actions ≡ others) × (after ≡ end) }
 {}
 
-/// States that sweeping at a moment and again at a later one is sweeping at the later one.
+/// States that sweeping at a moment and again at a later one has the same result as sweeping at the later one.
 pub fn sweeping_twice_is_sweeping_once()
     ensures { (t u : ℕ) (actions others : List Action) (before middle after : Account)
         → t ≤ u → IsSwept t actions before middle → IsSwept u others middle after
         → IsSwept u (actions ++ others) before after }
 {}
 
-/// States that where nothing but acts was done to a bucket by a moment, sweeping it then ends as if nothing had been
-/// done: in the same records and books.
+/// States that if only acts were done to a bucket by a moment, sweeping it then gives the same records and books as if
+/// nothing had been done.
 pub fn acts_change_no_later_sweep()
     ensures swept { (entries : List Entry) (u : ℕ) (p q : Office) (name : List ℕ) (others : List Action)
         (before after end : Account)

@@ -1,4 +1,4 @@
-// What holds of commands that carry a token, as calls that do nothing.
+// Laws of commands that carry a token, as functions that do nothing.
 ghost use Rattle.std.specs.Prelude.{◌≡◌, ℕ, ◌<◌, ◌≤◌, ◌++◌, ◌∷◌, List, Some, None, Ok, Err, true};
 ghost use Rattle.office_types.specs.Commands.{kind_of};
 ghost use Rattle.office_types.specs.Tokens.{takes_token};
@@ -11,8 +11,8 @@ ghost use Rattle.plain_office.specs.Once.{most_kept, kept_at, step_with};
 ghost use Rattle.plain_office.specs.Run.{accept, run_from, run};
 ghost use Rattle.office_laws.specs.Tokens.{other_tokens, IsReplyIn};
 
-/// States that a command whose token is kept with the same command gets the kept reply, that one whose token is kept
-/// with another command is refused, and that neither changes the office.
+/// States that a command whose token is kept with the same command gets the kept reply. If the token is kept with
+/// another command, it is refused. Neither changes the office.
 ///
 /// Own rule.
 pub fn a_kept_reply_is_given_again()
@@ -24,8 +24,8 @@ pub fn a_kept_reply_is_given_again()
         → step_with t (Some token) c p ≡ (p, Err (TokenReused (kind_of kept.command))) }
 {}
 
-/// States that each kept reply is that to an entry of the history that carried its token, and that between two entries
-/// with one token stand at least 10,000 entries with other ones.
+/// States that each kept reply is that to an entry of the history with its token. Between two entries with the same
+/// token there are at least 10,000 entries with other tokens.
 pub fn tokens_are_far_apart()
     ensures first { (entries : List Entry) (p : Office) (token : List ℕ) (kept : KeptReply)
         → run entries ≡ Some p → kept_at token p.kept ≡ Some kept → IsReplyIn entries kept }
@@ -35,8 +35,8 @@ pub fn tokens_are_far_apart()
         → most_kept ≤ other_tokens token middle }
 {}
 
-/// States that a command that was accepted with a token acts once: asked again with it, it gets the reply that it got,
-/// and changes nothing, as long as fewer than 10,000 commands with other tokens were accepted since.
+/// States that a command accepted with a token acts once. Sent again with the token, it gets its first reply and
+/// changes nothing, as long as fewer than 10,000 commands with other tokens were accepted since.
 pub fn a_command_with_a_token_acts_once()
     ensures { (history later : List Entry) (e : Entry) (token : List ℕ) (p q r : Office) (reply : Reply) (t : ℕ)
         → run history ≡ Some p → accept p e ≡ Some q → e.token ≡ Some token → takes_token e.command ≡ true
