@@ -1,5 +1,5 @@
--- What a checkpoint keeps of an office: its records, of its books the sums by month and class, and what is kept of the
--- commands with a token. The stays that have no end yet follow from the records.
+-- What a checkpoint keeps of an office: its records, the sums of its books by month and class, and the commands with a
+-- token. Stays that have not ended follow from the records.
 use Rattle.std.specs.Prelude.{◌≡◌, ℕ, ◌+◌, List, [], ◌∷◌, map, length, Option, option_map}
 use Rattle.tariff.specs.Prices.{Prices}
 use Rattle.due_core.specs.Buckets.{BucketRecord}
@@ -10,16 +10,16 @@ use Rattle.office_types.specs.declared.kept.Kept.{Kept}
 use Rattle.plain_office.specs.Office.{Office, Account, KeptReply, book_of}
 use Rattle.plain_office.specs.Orderly.{IsOrderly}
 
--- what contracts see of a bucket in a checkpoint: its name, its records, and the sums of its months in which there are
--- some
+-- a bucket in a checkpoint as contracts see it: its name, its records, and the sums of the months in which not all are
+-- 0
 pub record BucketPartRecord : Type 0 where
   pub name : List ℕ
   pub bucket : BucketRecord
   pub sums : List MonthSums
 
--- what contracts see of all that is kept: the moment of the last accepted command, the first month that does not count
--- as closed, the tariffs by their first months, the closed months with the tariff of their closing, the buckets in byte
--- order of their names, and what is kept of the commands with a token, oldest first
+-- a checkpoint as contracts see it: the moment of the last accepted command; the first month that is not closed; the
+-- tariffs by their first months; the closed months with the tariff of their closing; the buckets in the byte order of
+-- their names; and the kept commands with a token, oldest first
 pub record SnapshotRecord : Type 0 where
   pub last : Option ℕ
   pub first_open : Option ℕ
@@ -28,13 +28,13 @@ pub record SnapshotRecord : Type 0 where
   pub buckets : List BucketPartRecord
   pub kept : List Kept
 
--- ---- of which office it is
+-- ---- the office of a snapshot
 
--- the first month of the office that does not count as closed
+-- the office's first month that is not closed; none before the first accepted command
 abbrev pub first_open_of : Office → Option ℕ
 first_open_of office = option_map (λ first. first + length office.closed) office.first_month
 
--- the kept replies, each as it follows from what is kept
+-- the kept replies, each made from its kept command
 abbrev pub replies_of : List Kept → List KeptReply
 replies_of = map (λ kept. record { token = kept.token; command = kept.command; reply = reply_of kept })
 
@@ -44,7 +44,7 @@ pub record ShowsBucket (part : BucketPartRecord) (entry : List ℕ × Account) :
   pub bucket : part.bucket ≡ entry.1.bucket
   pub sums : AreSumsOf (book_of entry.1.books) part.sums
 
--- bucket by bucket: as many, and in the same order
+-- the parts show the buckets one by one: as many, and in the same order
 abbrev pub ShowBuckets : List BucketPartRecord → List (List ℕ × Account) → Type 0
 ShowBuckets [] [] = Unit {0}
 ShowBuckets [] (entry ∷ entries) = ⊥

@@ -1,4 +1,4 @@
-// What holds of every snapshot, as calls that do nothing.
+// Laws of every snapshot, as functions that do nothing.
 ghost use Rattle.std.specs.Prelude.{◌≡◌, ℕ, ◌^◌, ◌≤◌, List, length, Some};
 ghost use Rattle.std.specs.List.{AllByRecursion};
 ghost use Rattle.accrual.specs.Totals.{Totals, AreTotalsOf};
@@ -12,14 +12,14 @@ ghost use Rattle.office_snapshot.specs.Restorable.{HasForm, IsRestorable};
 ghost use Rattle.office_snapshot.specs.Classes.{AreWhole};
 ghost use Rattle.office_snapshot.specs.RecordStays.{record_stays, AreTotalsBy};
 
-/// States that each snapshot from which an office is restored shows an office, which is orderly.
+/// States that each snapshot that can be restored shows an orderly office.
 pub fn every_restorable_snapshot_shows_an_office()
     ensures { (snapshot : SnapshotRecord) → IsRestorable snapshot → (office : Office) × Shows snapshot office }
 {}
 
-/// States that meters that began with the sums of a bucket, and in which a stay was opened for each version and each
-/// part, stand for the books of each account that the bucket's part of a snapshot shows, in whatever order the account
-/// booked; and that there are at most 900,000 such stays.
+/// States that meters can be restored from a bucket's sums: start with them, and open a stay for each version and each
+/// part. They agree with the books of every account that the bucket's part of a snapshot shows, in any order of
+/// booking. There are at most 900,000 such stays.
 pub fn sums_and_open_stays_make_the_meters()
     ensures stand { (totals : Totals) (part : BucketPartRecord) (entry : List ℕ × Account) (last : ℕ)
         → IsOrderlyBucket last part.bucket → ShowsBucket part entry → HasOpenStays entry.1
@@ -28,8 +28,7 @@ pub fn sums_and_open_stays_make_the_meters()
         → AllByRecursion (λ part. length (record_stays part.bucket) ≤ 900_000) snapshot.buckets }
 {}
 
-/// States that the snapshot of an office after a history of at most 2^41 entries is one from which an office is
-/// restored.
+/// States that the snapshot of an office after a history of at most 2^41 entries can be restored.
 pub fn histories_have_restorable_snapshots()
     ensures { (history : List Entry) (office : Office) (snapshot : SnapshotRecord)
         → SizesFit history → run history ≡ Some office → length history ≤ 2 ^ 41

@@ -1,4 +1,4 @@
-// What is kept of an office.
+// What a checkpoint keeps of an office.
 
 use accrual::MonthSums;
 use due_core::Bucket;
@@ -8,19 +8,19 @@ use office_types::Kept;
 use std::marker::Model;
 use tariff::Tariff;
 
-/// What a checkpoint keeps of an office: its records, the sums of what was billed, and the kept replies. The stays that
-/// have no end yet follow from the records.
+/// What a checkpoint keeps of an office: its records, the sums of its books, and the kept replies. Stays that have not
+/// ended follow from the records.
 #[derive(Drop)]
 pub struct Snapshot {
     /// The moment of the last accepted command; none before the first.
     pub last: Option<Moment>,
-    /// The first month that does not count as closed; none before the first accepted command.
+    /// The first month that is not closed; none before the first accepted command.
     pub first_open: Option<Month>,
-    /// The tariffs that were set, by their first months.
+    /// The tariffs, by their first months.
     pub tariffs: Vec<Tariff>,
     /// The closed months in order, each with the tariff of its closing.
     pub closed: Vec<(Month, Tariff)>,
-    /// The buckets in byte order of their names.
+    /// The buckets in the byte order of their names.
     pub buckets: Vec<BucketPart>,
     /// What is kept of the last commands with a token, oldest first.
     pub kept: Vec<Kept>,
@@ -46,7 +46,7 @@ impl Model for Snapshot {
 pub struct BucketPart {
     pub name: BucketName,
     pub bucket: Bucket,
-    /// The sums of the months in which there are some, in order.
+    /// The sums of the months in which not all are 0, in order.
     pub sums: Vec<MonthSums>,
 }
 
