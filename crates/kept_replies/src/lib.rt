@@ -1,4 +1,4 @@
-//! The replies to commands with a token, found by their tokens and dropped in the order in which they were kept.
+//! The replies to commands with a token, found by their tokens and dropped from the oldest on.
 #![tactic(auto)]
 
 mod replies;

@@ -15,23 +15,23 @@ use std::alloc::{AllocError, Global};
 use std::collections::{BTreeMap, VecDeque};
 use std::marker::Model;
 
-/// So many replies are kept. Own rule.
+/// How many replies are kept. Own rule.
 pub const MOST_KEPT: usize = 10_000;
 
 /// The replies to the last commands that were accepted with a token, each under its token.
 ///
-/// A reply is kept in two steps, so that nothing is wanting once its command was done: `hold` takes the memory, and
-/// `keep` puts the reply there.
+/// A reply is kept in two steps, so that keeping it cannot fail after its command was done: `hold` takes the memory,
+/// and `keep` stores the reply.
 #[derive(Drop)]
 pub struct KeptReplies {
-    // The number of each token's reply, counted over all that were ever kept. A token that is not in the queue may
-    // stand here too: a number tells where to look.
+    // The number of each token's reply, counted over all that were ever kept. It may have tokens that are not in the
+    // queue: a number only says where to look.
     numbers: BTreeMap<Token, u64>,
     // Oldest first.
     queue: VecDeque<Kept>,
-    // How many were dropped, which is the number of the oldest one.
+    // How many replies were dropped. It is also the number of the oldest one.
     dropped: u64,
-    // A token and its command whose reply is not known yet.
+    // A token and its command, whose reply is not known yet.
     held: Option<(Token, Command)>,
 }
 
@@ -52,7 +52,7 @@ impl Model for KeptReplies {
 }
 
 impl KeptReplies {
-    /// Keeps no reply yet. Takes no memory.
+    /// Makes an empty store of replies. Takes no memory.
     pub fn new(alloc: Global) -> KeptReplies
         ensures { result ≡ record { queue = []; dropped = 0; held = None } }
     {
@@ -64,7 +64,7 @@ impl KeptReplies {
         }
     }
 
-    /// Keeps these replies, oldest first, of which each has a token of its own.
+    /// Makes a store of these replies, oldest first. Each has a token of its own.
     ///
     /// Cost: a search of the tokens for each.
     ///
@@ -88,7 +88,7 @@ impl KeptReplies {
         })
     }
 
-    /// Lists what is kept, oldest first. Of each its mark and its number are those that its reply tells.
+    /// Lists the kept replies, oldest first, each with the two parts of its reply that do not follow from its command.
     ///
     /// Cost: a copy of each token and command.
     ///
@@ -102,7 +102,7 @@ impl KeptReplies {
         copies_of_all(alloc, &self.queue)
     }
 
-    /// Finds what is kept under a token; None where nothing is. Takes no memory.
+    /// Finds what is kept under a token; None if there is nothing. Takes no memory.
     ///
     /// Cost: one search of the tokens.
     pub fn find(&self, token: &Token) -> Option<&Kept>
@@ -112,9 +112,9 @@ impl KeptReplies {
         reply_at(&self.queue, self.dropped, number, token)
     }
 
-    /// Recalls the reply to a command that carries a token; None where no reply is kept under the token.
+    /// Recalls the reply to a command that carries a token; None if no reply is kept under the token.
     ///
-    /// Cost: one search of the tokens; where a reply is kept, a pass over both commands.
+    /// Cost: one search of the tokens; if a reply is kept, a pass over both commands.
     ///
     /// # Errors
     ///
@@ -129,9 +129,9 @@ impl KeptReplies {
         }
     }
 
-    /// Takes the memory to keep the reply to a command under its token, under which none is kept.
+    /// Takes the memory to keep the reply to a command under its token. No reply is kept under it yet.
     ///
-    /// Cost: one search of the tokens. The command is copied once, the token twice: into the queue and to find it.
+    /// Cost: one search of the tokens. The command is copied once, the token twice: for the queue and for the index.
     ///
     /// # Errors
     ///
@@ -151,7 +151,7 @@ impl KeptReplies {
         Ok(())
     }
 
-    /// Lets go what is held, where the command was not accepted. Takes no memory.
+    /// Drops the held token and its command, if the command was not accepted. Takes no memory.
     ///
     /// Cost: one search of the tokens.
     pub fn let_go(&mut self)
@@ -161,10 +161,10 @@ impl KeptReplies {
         drop_number(&mut self.numbers, &held);
     }
 
-    /// Keeps the reply to the command that is held, which was accepted at the moment; where too many are kept then, the
-    /// oldest goes. Takes no memory.
+    /// Keeps the reply to the held command, which was accepted at the moment. If too many are then kept, the oldest is
+    /// dropped. Takes no memory.
     ///
-    /// Cost: where the oldest goes, one search of the tokens.
+    /// Cost: if the oldest is dropped, one search of the tokens.
     pub fn keep(&mut self, moment: Moment, reply: &Reply)
         requires held { IsSome self.old.held }
         requires few { self.old.dropped + 10_001 < 2 ^ 64 }
@@ -187,7 +187,7 @@ impl KeptReplies {
     }
 }
 
-// A token twice, and its command.
+// Two copies of a token, and one of its command.
 fn copies_of(token: &Token, command: &Command) -> Result<(Token, Token, Command), NoMemory>
     ensures { IfOk result (λ x. (x.0 ≡ token.now) × (x.1 ≡ token.now) × (x.2 ≡ command.now)) }
 {
@@ -203,7 +203,7 @@ fn copies_of(token: &Token, command: &Command) -> Result<(Token, Token, Command)
     }
 }
 
-// Room for one more.
+// Makes room for one more reply.
 fn make_room(queue: &mut VecDeque<Kept>) -> Result<(), NoMemory>
     ensures same { queue.new.items ≡ queue.old.items }
     ensures room { OnOk result (deque_len queue.new < deque_capacity queue.new) }
@@ -233,7 +233,7 @@ fn drop_number(numbers: &mut BTreeMap<Token, u64>, held: &Option<(Token, Command
     }
 }
 
-// One reply more, without the oldest where there are too many; how many were dropped then.
+// Adds a reply, and drops the oldest if there are then too many. Gives how many were dropped in all.
 fn push(
     numbers: &mut BTreeMap<Token, u64>,
     queue: &mut VecDeque<Kept>,
@@ -267,7 +267,7 @@ fn number_under(numbers: &BTreeMap<Token, u64>, token: &Token) -> Option<u64>
     }
 }
 
-// The reply of this number, where it is the token's; the first one has the number `first`.
+// The reply with this number, if it has this token; the oldest one has the number `first`.
 fn reply_at<'a>(
     queue: &'a VecDeque<Kept>,
     first: u64,
@@ -308,7 +308,7 @@ fn told_again(kept: &Kept, command: &Command) -> Result<Option<Reply>, Refusal>
     }
 }
 
-// The oldest reply goes, and its token with it.
+// Drops the oldest reply, and its token.
 fn drop_oldest(numbers: &mut BTreeMap<Token, u64>, queue: &mut VecDeque<Kept>)
     ensures queue { queue.new.items ≡ drop 1 queue.old.items }
     ensures numbers { (first : ℕ) → 0 < length queue.old.items → IsIndexed first numbers.old.entries queue.old.items
@@ -319,7 +319,7 @@ fn drop_oldest(numbers: &mut BTreeMap<Token, u64>, queue: &mut VecDeque<Kept>)
     }
 }
 
-// One more of the replies that are kept anew, under the number of its place.
+// Adds one of the replies from which a store is made, under the number of its place.
 fn take_up(
     numbers: &mut BTreeMap<Token, u64>,
     queue: &mut VecDeque<Kept>,
@@ -340,7 +340,7 @@ fn take_up(
     Ok(())
 }
 
-// What is kept once more, with the mark and the number that its reply tells.
+// Copies a kept command, with the two parts that its reply has.
 fn copy_of(kept: &Kept) -> Result<Kept, AllocError>
     ensures same { IfOk result (λ copy. plain_reply copy ≡ plain_reply kept.now) }
     ensures told { IfOk result IsTold }
