@@ -52,12 +52,12 @@ made_read : entry_of logs_bytes ≡ Ok logs_made
 unfolding to_compute
 made_read = refl
 
--- a byte behind the last field is a fault where it stands
+-- a byte after the last field is a fault at its own offset
 made_longer : entry_of (logs_bytes ++ 0x00 ∷ []) ≡ Err 15
 unfolding to_compute
 made_longer = refl
 
--- a name that is cut off is a fault where its length stands
+-- a name that is cut off is a fault at the offset of its length
 made_shorter : entry_of (take 14 logs_bytes) ≡ Err 9
 unfolding to_compute
 made_shorter = refl
@@ -97,7 +97,7 @@ kind_11 = refl
 abbrev once_made : Entry
 once_made = entry_with 1_704_067_200_000 (Some (codes "t1")) (command.CreateBucket (codes "logs"))
 
--- the kind is 80 higher, and the token stands behind it
+-- the kind is 80 higher, and the token stands after it
 abbrev once_bytes : List ℕ
 once_bytes = moment_bytes ++ 0x81 ∷ 0x02 ∷ 0x74 ∷ 0x31 ∷ name_bytes
 
@@ -109,7 +109,7 @@ once_read : entry_of once_bytes ≡ Ok once_made
 unfolding to_compute
 once_read = refl
 
--- an empty token, one with a space, and one that is cut off are faults where the length stands
+-- an empty token, one with a space, and one that is cut off are faults at the offset of the length
 token_empty : entry_of (moment_bytes ++ 0x81 ∷ 0x00 ∷ name_bytes) ≡ Err 9
 unfolding to_compute
 token_empty = refl
@@ -126,7 +126,7 @@ no_token : entry_of (take 9 once_bytes) ≡ Err 9
 unfolding to_compute
 no_token = refl
 
--- the name behind the token is a field of its own
+-- the name after the token is a field of its own
 once_shorter : entry_of (take 17 once_bytes) ≡ Err 12
 unfolding to_compute
 once_shorter = refl
@@ -225,7 +225,7 @@ empty_key_of_tag : entry_of (class_bytes ++ 0x01 ∷ 0x00 ∷ 0x00 ∷ 0x00 ∷ 
 unfolding to_compute
 empty_key_of_tag = refl
 
--- one tag, and bytes behind it
+-- one tag, and bytes after it
 one_tag : entry_of (class_bytes ++ 0x01 ∷ keep_bytes ++ kind_bytes) ≡ Err 38
 unfolding to_compute
 one_tag = refl

@@ -244,7 +244,7 @@ pub moment-IsFormat : IsFormat moment_format
 unfolding moment_format
 moment-IsFormat = such_that-IsFormat (number w64) (λ moment. nat_lt moment end_of_time) (number-IsFormat w64 wide64)
 
--- the number of a kind that was read, with a token behind it or without
+-- the number of a kind that was read, with a token after it or without
 head_number_of : (n : ℕ) (token : Bool) (o : Option Kind) (head : Head) → ((k : Kind) → o ≡ Some k → kind_number k ≡ n) → head_of token o ≡ Some head
     → (head_number head ≡ cond token (n + 0x80) n) × (is_head head ≡ true)
 head_number_of n token None head back e = absurd cc

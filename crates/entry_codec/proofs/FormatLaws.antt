@@ -161,7 +161,7 @@ pair-IsFormat {X = X} {Y = Y} first second law_first law_second = record { again
         subst (λ (y : (X × Y) × List ℕ). (bytes ≡ (first.written y.0.0 ++ second.written y.0.1) ++ y.1) × ((pair first second).has y.0 ≡ true))
         (same_Some ((a.0.0, b.0.0), b.0.1) x b.2) (whole, and_from _ _ t.1 u.1)
 
--- items one behind the other
+-- items one after the other
 items_again : {X : Type 0} (format : Format X) → IsFormat format → (xs : List X) (rest : List ℕ) → list_all format.has xs ≡ true
     → front_items format (length xs) (flat_map format.written xs ++ rest) ≡ Some (xs, rest)
 unfolding front_items

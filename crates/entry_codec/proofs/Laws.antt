@@ -1,4 +1,4 @@
--- What is read is spelled so, and what is spelled so is read.
+-- The bytes of what is read are its spelling, and each spelling is read.
 use Rattle.std.proofs.Common.{◌≡◌, ℕ, ◌^◌, ◌<◌, ◌≤◌, ◌-◌, Bool, true, false, not, cond, eqb, List, [], ◌∷◌, ◌++◌, length, Option, Some, None, Result, Ok, Err, refl, sym, ap, ap₂, subst, ◌∙◌, arith}
 use Rattle.std.proofs.Common.{append_assoc}
 use Rattle.std.specs.Prelude.{IfOk, IfSome, ok_or}
@@ -326,7 +326,7 @@ has_token token has = (and_parts _ _ has).1
 
 -- ---- commands
 
--- a head, the token behind it if it says so, and the kind's fields, with what is left
+-- a head, the token after it if it says so, and the kind's fields, with what is left
 record Takes (bytes : List ℕ) (x : Option (List ℕ) × Command) : Type 0 where
   parts : bytes ≡ command_spelling x.0 x.1
   token : IfSome x.0 IsToken

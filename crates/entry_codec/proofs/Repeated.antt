@@ -1,4 +1,4 @@
--- A field that stands several times, as fields and as a list.
+-- A field that an entry has several times, as fields and as a list.
 use Rattle.std.proofs.Common.{◌≡◌, ◌∙◌, ◌+◌, ◌-◌, ◌<◌, ◌≤◌, ℕ, zero, suc, true, List, [], ◌∷◌, ◌++◌, length, get_or, take, drop, Result, Ok, Err, refl, sym, ap, append_assoc, arith}
 use Rattle.std.specs.List.{list_all, flat_map}
 use Rattle.std.proofs.Math.ListN.{set}
@@ -30,7 +30,7 @@ module _ (field : Field) (none : ValueOf field) where
   abbrev Value : Type 0
   Value = ValueOf field
 
-  -- the first elements, and the default where there are none
+  -- the first elements, and the default if there are none
   abbrev pub firsts : ℕ → List Value → List Value
   firsts zero xs = []
   firsts (suc n) xs = get_or xs 0 none ∷ firsts n (drop 1 xs)
@@ -52,7 +52,7 @@ module _ (field : Field) (none : ValueOf field) where
 
   -- ---- reading
 
-  -- the other fields behind these
+  -- the other fields after these
   abbrev pub then_fields : {B : Type 0} (n : ℕ) (fields : List Field) (total : ℕ) → (Values (times n fields) × List ℕ → Result B ℕ) → List Value × List ℕ → Result B ℕ
   then_fields n fields total f s = values_at fields total s.1 >>= λ v. f (joined n fields s.0 v.0, v.1)
 

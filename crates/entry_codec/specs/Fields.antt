@@ -38,7 +38,7 @@ abbrev pub status_code : Bool → ℕ
 status_code true = 1
 status_code false = 2
 
--- what such a number sets, and nothing for any other number
+-- what such a number sets; none for any other number
 abbrev pub status_value : ℕ → Option Bool
 status_value status = if status == 1 then Some true else if status == 2 then Some false else None
 
@@ -51,12 +51,12 @@ abbrev pub id_code : VersionId → ℕ
 id_code version.Null = 0
 id_code (version.Number n) = n
 
--- an id that is written so: the null version, or a number from 1 on
+-- an id that can be written so: the null version, or a number from 1 on
 abbrev pub is_id : VersionId → Bool
 is_id version.Null = true
 is_id (version.Number n) = nat_lt 0 n
 
--- the id that such a number is: the null version for 0
+-- the id that has this number: the null version for 0
 abbrev pub id_value : ℕ → Option VersionId
 id_value n = Some (if n == 0 then version.Null else version.Number n)
 
@@ -64,15 +64,15 @@ id_value n = Some (if n == 0 then version.Null else version.Number n)
 abbrev pub ids : Code ℕ VersionId
 ids = record { code = id_code; has = is_id; value = id_value }
 
--- a tier as two numbers: where it ends, 0 where it has no end, and its price
+-- a tier as two numbers: its end, 0 if it has none, and its price
 abbrev pub tier_code : Tier → ℕ × ℕ
 tier_code tier = (unwrap_or tier.upto 0, tier.price)
 
--- a tier that is written so: where it ends, it does not end at 0
+-- a tier that can be written so: its end, if it has one, is not 0
 abbrev pub is_tier : Tier → Bool
 is_tier tier = unwrap_or (option_map (nat_lt 0) tier.upto) true
 
--- the tier that two numbers are
+-- the tier that these two numbers stand for
 abbrev pub tier_value : ℕ × ℕ → Option Tier
 tier_value numbers = Some (record { upto = (if numbers.0 == 0 then None else Some numbers.0); price = numbers.1 })
 
@@ -84,7 +84,7 @@ tier_numbers = record { code = tier_code; has = is_tier; value = tier_value }
 unfoldable pub tier_format : Format Tier
 tier_format = coded (pair (number w32) (number w32)) tier_numbers
 
--- a text in UTF-8 behind two bytes of length
+-- a text in UTF-8 after its length in two bytes
 unfoldable pub utf8_text : Format (List ℕ)
 utf8_text = counted_text (number w16) such_that is_utf8
 
@@ -92,8 +92,8 @@ utf8_text = counted_text (number w16) such_that is_utf8
 unfoldable pub tag_format : Format Tag
 tag_format = pair utf8_text utf8_text
 
--- tags as an object keeps them, beside their number (S3 User Guide, "Categorizing your objects using tags"); the order
--- is own
+-- tags as an object keeps them, except for their number: each is a tag (S3 User Guide, "Categorizing your objects using
+-- tags"), and their keys rise (own)
 abbrev pub are_kept : List Tag → Bool
 are_kept tags = list_all is_tag tags && keys_rise tags
 
@@ -118,7 +118,7 @@ rules_texts = record {
 
 -- ---- fields
 
--- what stands in an entry behind its kind; the numbers have four and eight bytes
+-- a field of an entry, after its kind; Number4 and Number8 have four and eight bytes
 pub data Field : Type 0 where
   Name Key Size Rank Tags Rules Status Id Number4 Number8 Price Tiers Year Month : Field
 
@@ -139,7 +139,7 @@ ValueOf Tiers = List Tier
 ValueOf Year = ℕ
 ValueOf Month = ℕ
 
--- how each field stands in bytes, and its range
+-- how each field is written, and its range
 unfoldable pub format : (field : Field) → Format (ValueOf field)
 format Name = counted_text (number w16) such_that is_bucket_name
 format Key = counted_text (number w16) such_that is_key
@@ -160,6 +160,6 @@ format Month = number w8 such_that λ month. nat_le 1 month && nat_le month 12
 unfoldable pub moment_format : Format ℕ
 moment_format = number w64 such_that λ moment. nat_lt moment end_of_time
 
--- a token behind one byte of length
+-- a token after its length in one byte
 unfoldable pub token_format : Format (List ℕ)
 token_format = counted_text (number w8) such_that is_token

@@ -38,11 +38,11 @@ row SetTariff = (0x0E, repeat 11 (Price ∷ []))
 row Close = (0x0F, Year ∷ Month ∷ [])
 row SetTiers = (0x10, Year ∷ Month ∷ repeat 6 (Tiers ∷ []) ++ repeat 5 (Price ∷ []))
 
--- the columns of the table
+-- the number of a kind
 abbrev pub kind_number : Kind → ℕ
 kind_number kind = (row kind).0
 
--- the fields of a kind, in the order in which they stand in an entry
+-- the fields of a kind, in the order in which an entry has them
 abbrev pub fields_of : Kind → List Field
 fields_of kind = (row kind).1
 
@@ -62,16 +62,16 @@ carries_token SetTariff = false
 carries_token SetTiers = false
 carries_token other = true
 
--- with what an entry's command begins: its kind, and whether a token stands behind it
+-- what an entry's command begins with: its kind, and whether a token follows
 abbrev pub Head : Type 0
 Head = Kind × Bool
 
--- a kind by its number, and with a token by 80 more (own)
+-- the number of a kind, or 80 (hexadecimal) more with a token (own)
 abbrev pub head_number : Head → ℕ
 head_number (kind, false) = kind_number kind
 head_number (kind, true) = kind_number kind + 0x80
 
--- a token stands behind a kind that carries one alone
+-- a token follows only a kind that may carry one
 abbrev pub is_head : Head → Bool
 is_head (kind, false) = true
 is_head (kind, true) = carries_token kind
@@ -107,15 +107,15 @@ pub record CommandParts : Type 0 where
 
 -- ---- tariffs, which have two kinds
 
--- one tier for any quantity
+-- there is one tier, for any quantity
 abbrev pub has_one : List Tier → Bool
 has_one tiers = length tiers == 1
 
--- a tariff that holds at all times, with one price for each class: it has the shorter kind, and no other tariff has (own)
+-- a tariff that holds at all times, with one price for each class; only such a tariff has the shorter kind (own)
 abbrev pub is_plain : Prices → Bool
 is_plain tariff = (tariff.from == 0) && list_all has_one tariff.storage
 
--- the price of the one tier
+-- the price of the first tier; 0 if there is none
 abbrev pub first_price : List Tier → ℕ
 first_price [] = 0
 first_price (tier ∷ tiers) = tier.price
@@ -195,12 +195,12 @@ command_of SetTiers (year, (month, (a, (b, (c, (d, (e, (f, (g, (h, (i, (j, (k, n
       transition = g ∷ h ∷ i ∷ j ∷ k ∷ [];
     })
 
--- the command of these values has no other kind: the longer kind of a tariff has none that the shorter one has (own)
+-- a command that is not written with the longer kind of a tariff (own)
 abbrev pub is_plain_command : Command → Bool
 is_plain_command (command.SetTariff tariff) = is_plain tariff
 is_plain_command other = true
 
--- a kind has the values of no other one
+-- these values belong to this kind: those of the longer kind of a tariff are not what the shorter kind can write
 abbrev pub is_own : (kind : Kind) → Values (fields_of kind) → Bool
 is_own SetTiers values = not (is_plain_command (command_of SetTiers values))
 is_own other values = true

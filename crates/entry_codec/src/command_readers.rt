@@ -1,5 +1,5 @@
-// Reading commands, a function for each kind. Each takes the fields of its kind from the front of the bytes that are
-// left of an entry of `total` bytes, and gives what is left then.
+// Reads commands, a function for each kind. Each takes the fields of its kind from the front of the bytes that are left
+// of an entry of `total` bytes, and returns the bytes after them.
 ghost use Rattle.std.specs.Prelude.{◌≡◌, ◌-◌, IfOk, IfErr};
 ghost use Rattle.office_types.specs.declared.command.Command.TheVariants as command;
 ghost use Rattle.entry_codec.specs.declared.fault.EntryFault.TheVariants.{BadEntry, NoMemory};
@@ -219,7 +219,7 @@ fn plain_tariff(
     }
 }
 
-// The fault of the kind, which stands in front of these bytes.
+// The fault of the kind, which is the byte before these bytes.
 fn kind_fault(total: usize, bytes: &[u8]) -> EntryFault
     ensures { result ≡ BadEntry (place total bytes.now - 1) }
 {

@@ -1,5 +1,5 @@
-// Reading fields. A reader takes the value of its field from the front of the bytes that are left of an entry of
-// `total` bytes, and gives what is left then.
+// Reads fields. A reader takes the value of its field from the front of the bytes that are left of an entry of `total`
+// bytes, and returns the bytes after it.
 ghost use Rattle.std.specs.Prelude.{◌≡◌, Some, None, if◌then◌else◌};
 ghost use Rattle.office_base.specs.Names.{is_bucket_name};
 ghost use Rattle.entry_codec.specs.declared.fault.EntryFault.TheVariants.{BadEntry};
@@ -14,7 +14,7 @@ use office_base::{BucketName, Key, NameRefusal, NoMemory, Nth, Size, Tags, Versi
 use office_types::Token;
 use std::alloc::Global;
 
-// The fault of the field with which the bytes begin that are left of an entry of `total` bytes.
+// The fault of the field at the front of the bytes that are left of an entry of `total` bytes.
 pub(crate) fn fault_at(total: usize, bytes: &[u8]) -> EntryFault
     ensures { result ≡ BadEntry (place total bytes.now) }
 {
@@ -23,7 +23,7 @@ pub(crate) fn fault_at(total: usize, bytes: &[u8]) -> EntryFault
     }
 }
 
-/// The name that the bytes are; None where they are no name.
+/// Reads a bucket name, which is all of the bytes; `None` if they are not a valid name.
 #[tactic(auto, using(office_base::proofs::Utf8::name_is_text))]
 pub fn name_in(alloc: Global, bytes: &[u8]) -> Result<Option<BucketName>, NoMemory>
     ensures { Finds (λ name. name) result (if is_bucket_name bytes.now then Some bytes.now else None) }
@@ -83,7 +83,7 @@ pub(crate) fn size_of(total: usize, bytes: &[u8]) -> Result<(Size, &[u8]), Entry
     }
 }
 
-/// Gives the storage class of a rank; None above the last one.
+/// Returns the storage class of a rank; `None` above the last rank.
 pub fn class_of_rank(rank: u8) -> Option<Class>
     ensures { result ≡ ranks.value rank }
 {
@@ -150,7 +150,7 @@ pub(crate) fn status_of(total: usize, bytes: &[u8]) -> Result<(bool, &[u8]), Ent
     }
 }
 
-/// Gives the version id of a number: null for 0.
+/// Returns the version id of a number: null for 0.
 pub fn id_of_number(number: u64) -> VersionId
     ensures { ids.value number ≡ Some result }
 {
@@ -190,7 +190,7 @@ pub(crate) fn u64_of(total: usize, bytes: &[u8]) -> Result<(u64, &[u8]), EntryFa
     }
 }
 
-// A length in one byte, and a token of so many bytes.
+// A token after its length in one byte.
 #[tactic(auto, unfolding(crate::specs::Reading::value_at, crate::specs::Fields::token_format))]
 pub(crate) fn token_of(
     alloc: Global,

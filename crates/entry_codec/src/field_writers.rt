@@ -1,4 +1,4 @@
-// Writing fields. A writer adds a value as its field stands in an entry.
+// Writes fields. A writer adds a value as an entry has it.
 ghost use Rattle.std.specs.Prelude.{◌≡◌, ◌++◌, ◌<◌, ◌^◌, length, true, IsTrue, IfSome, OnOk, option_copied};
 ghost use Rattle.std.specs.Int.{w16, w32};
 ghost use Rattle.office_base.specs.Tags.{is_tag, tag_of};
@@ -22,7 +22,7 @@ fn put_text(out: &mut Vec<u8>, bytes: &[u8]) -> Result<(), AllocError>
     out.extend_from_slice(bytes)
 }
 
-/// Writes a text behind its length in four bytes.
+/// Writes a text after its length in four bytes.
 pub fn put_long_text(out: &mut Vec<u8>, bytes: &[u8]) -> Result<(), AllocError>
     requires { length bytes.now < 2 ^ 32 }
     ensures { OnOk result (out.new.items ≡ out.old.items ++ (counted_text (number w32)).written bytes.now) }
@@ -31,7 +31,7 @@ pub fn put_long_text(out: &mut Vec<u8>, bytes: &[u8]) -> Result<(), AllocError>
     out.extend_from_slice(bytes)
 }
 
-// A kind, and the token behind it, if there is one.
+// A kind, and the token after it, if there is one.
 #[tactic(auto, unfolding(crate::specs::Spelling::head_spelling, crate::specs::Kinds::head_format, crate::specs::Fields::token_format))]
 pub(crate) fn put_head(
     out: &mut Vec<u8>,
@@ -78,7 +78,7 @@ pub fn put_tags(out: &mut Vec<u8>, tags: &Tags) -> Result<(), AllocError>
     Ok(())
 }
 
-/// Writes a bucket's name behind its length in two bytes.
+/// Writes a bucket's name after its length in two bytes.
 #[tactic(auto, using(crate::proofs::Fitting::name_has), unfolding(crate::specs::Fields::format))]
 pub fn put_name(out: &mut Vec<u8>, name: &BucketName) -> Result<(), AllocError>
     ensures bytes { OnOk result (out.new.items ≡ out.old.items ++ (format field.Name).written name.now) }
@@ -87,7 +87,7 @@ pub fn put_name(out: &mut Vec<u8>, name: &BucketName) -> Result<(), AllocError>
     put_text(out, name.text().as_bytes())
 }
 
-/// Writes a key behind its length in two bytes.
+/// Writes a key after its length in two bytes.
 #[tactic(auto, using(crate::proofs::Fitting::key_has), unfolding(crate::specs::Fields::format))]
 pub fn put_key(out: &mut Vec<u8>, key: &Key) -> Result<(), AllocError>
     ensures bytes { OnOk result (out.new.items ≡ out.old.items ++ (format field.Key).written key.now) }
@@ -134,7 +134,7 @@ fn number_of(id: VersionId) -> u64
     }
 }
 
-/// Writes a version id: 0 for null, else its number, in eight bytes.
+/// Writes a version id in eight bytes: 0 for null, else its number.
 #[tactic(auto, using(crate::proofs::Fitting::id_has), unfolding(crate::specs::Fields::format))]
 pub fn put_id(out: &mut Vec<u8>, id: VersionId) -> Result<(), AllocError>
     ensures bytes { OnOk result (out.new.items ≡ out.old.items ++ (format field.Id).written id) }

@@ -1,5 +1,5 @@
-// Reading the parts of which fields consist. A reader takes its value from the front of the bytes, and gives what is
-// left then; it gives None where no such value stands there.
+// Reads the parts of fields. A reader takes its value from the front of the bytes, and returns it with the bytes after
+// it; it returns `None` if no such value is there.
 ghost use Rattle.std.specs.Prelude.{◌≡◌, option_map, IfOk};
 ghost use Rattle.std.specs.Int.{w8, w16, w32, w64};
 ghost use Rattle.office_base.specs.Tags.{tag_of, tags_of, is_tag_before, keys_rise};
@@ -11,10 +11,10 @@ ghost use Rattle.entry_codec.specs.Reading.{Finds};
 use office_base::{NameRefusal, NoMemory, Tags};
 use std::alloc::{AllocError, Global};
 
-// An object has no more tags.
+// The most tags of an object.
 const MOST_TAGS: u8 = 10;
 
-/// Reads one byte; gives it and the bytes behind it.
+/// Reads one byte; returns it and the bytes after it.
 pub fn u8_in(bytes: &[u8]) -> Option<(u8, &[u8])>
     ensures { option_map (λ x. (x.0, x.1.now)) result ≡ (number w8).front bytes.now }
 {
@@ -25,7 +25,7 @@ pub fn u8_in(bytes: &[u8]) -> Option<(u8, &[u8])>
     Some((front[0], rest))
 }
 
-/// Reads a number of two bytes, high byte first; gives it and the bytes behind it.
+/// Reads a number of two bytes, high byte first; returns it and the bytes after it.
 pub fn u16_in(bytes: &[u8]) -> Option<(u16, &[u8])>
     ensures { option_map (λ x. (x.0, x.1.now)) result ≡ (number w16).front bytes.now }
 {
@@ -36,7 +36,7 @@ pub fn u16_in(bytes: &[u8]) -> Option<(u16, &[u8])>
     Some((u16::from_be_bytes([front[0], front[1]]), rest))
 }
 
-/// Reads a number of four bytes, high byte first; gives it and the bytes behind it.
+/// Reads a number of four bytes, high byte first; returns it and the bytes after it.
 pub fn u32_in(bytes: &[u8]) -> Option<(u32, &[u8])>
     ensures { option_map (λ x. (x.0, x.1.now)) result ≡ (number w32).front bytes.now }
 {
@@ -50,7 +50,7 @@ pub fn u32_in(bytes: &[u8]) -> Option<(u32, &[u8])>
     ))
 }
 
-/// Reads a number of eight bytes, high byte first; gives it and the bytes behind it.
+/// Reads a number of eight bytes, high byte first; returns it and the bytes after it.
 pub fn u64_in(bytes: &[u8]) -> Option<(u64, &[u8])>
     ensures { option_map (λ x. (x.0, x.1.now)) result ≡ (number w64).front bytes.now }
 {
@@ -64,7 +64,7 @@ pub fn u64_in(bytes: &[u8]) -> Option<(u64, &[u8])>
     Some((number, rest))
 }
 
-/// A length in one byte, and so many bytes.
+/// Reads a length in one byte, and that many bytes.
 pub fn short_counted_in(bytes: &[u8]) -> Option<(&[u8], &[u8])>
     ensures { option_map (λ x. (x.0.now, x.1.now)) result ≡ (counted_text (number w8)).front bytes.now }
 {
@@ -75,7 +75,7 @@ pub fn short_counted_in(bytes: &[u8]) -> Option<(&[u8], &[u8])>
     Some(rest.split_at(len as usize))
 }
 
-/// A length in two bytes, and so many bytes.
+/// Reads a length in two bytes, and that many bytes.
 pub fn counted_in(bytes: &[u8]) -> Option<(&[u8], &[u8])>
     ensures { option_map (λ x. (x.0.now, x.1.now)) result ≡ (counted_text (number w16)).front bytes.now }
 {
@@ -86,7 +86,7 @@ pub fn counted_in(bytes: &[u8]) -> Option<(&[u8], &[u8])>
     Some(rest.split_at(len as usize))
 }
 
-/// A length in four bytes, and so many bytes.
+/// Reads a length in four bytes, and that many bytes.
 pub fn long_counted_in(bytes: &[u8]) -> Option<(&[u8], &[u8])>
     ensures { option_map (λ x. (x.0.now, x.1.now)) result ≡ (counted_text (number w32)).front bytes.now }
 {
@@ -97,7 +97,7 @@ pub fn long_counted_in(bytes: &[u8]) -> Option<(&[u8], &[u8])>
     Some(rest.split_at(len as usize))
 }
 
-// A length in two bytes, and so many bytes in UTF-8.
+// A length in two bytes, and that many bytes in UTF-8.
 #[tactic(auto, using(office_base::proofs::Utf8::utf8_tests), unfolding(crate::specs::Fields::utf8_text))]
 fn text_in(bytes: &[u8]) -> Option<(&str, &[u8])>
     ensures { option_map (λ x. (x.0.now, x.1.now)) result ≡ utf8_text.front bytes.now }
@@ -135,7 +135,7 @@ fn pair_of(alloc: Global, key: &str, value: &str) -> Result<(String, String), Al
     ))
 }
 
-// So many of them.
+// This many pairs, one after the other.
 fn pairs_in(
     alloc: Global,
     count: u8,
@@ -163,7 +163,7 @@ fn is_before(first: &(String, String), second: &(String, String)) -> bool
     first.0.as_str() < second.0.as_str()
 }
 
-// The keys rise.
+// Whether the keys rise.
 fn rise(pairs: &[(String, String)]) -> bool
     ensures { result ≡ keys_rise (tags_of pairs.now) }
 {
@@ -176,7 +176,7 @@ fn rise(pairs: &[(String, String)]) -> bool
     }
 }
 
-/// Tags: their number in a byte, and the pairs, whose keys rise.
+/// Reads tags: their number in one byte, and the pairs, whose keys rise.
 pub fn tags_in(alloc: Global, bytes: &[u8]) -> Result<Option<(Tags, &[u8])>, NoMemory>
     ensures { Finds (λ x. (x.0, x.1.now)) result ((format field.Tags).front bytes.now) }
 {

@@ -104,7 +104,7 @@ impl Kind {
         }
     }
 
-    // A token may stand behind the kind.
+    // Whether a token may follow the kind.
     fn carries_token(self) -> bool
         ensures { result ≡ carries_token self }
     {
@@ -114,7 +114,7 @@ impl Kind {
         }
     }
 
-    // The number of the kind, with a token behind it or without.
+    // The number of the kind, with or without a token after it.
     pub(crate) fn head(self, token: bool) -> u8
         ensures { result ≡ head_number (self, token) }
     {
@@ -125,7 +125,7 @@ impl Kind {
         }
     }
 
-    // The kind with which a command of this number begins, and whether a token stands behind it.
+    // The kind of a command that begins with this number, and whether a token follows.
     pub(crate) fn of_head(number: u8) -> Option<(Kind, bool)>
         ensures { result ≡ heads.value number }
     {

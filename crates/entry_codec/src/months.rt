@@ -27,7 +27,7 @@ pub(crate) fn read_year(total: usize, bytes: &[u8]) -> Result<(u16, &[u8]), Entr
     Ok((year, rest))
 }
 
-// The month of this year with a number from 1; None where the year has no such month.
+// The month of this year with a number from 1; `None` if the year has no such month.
 #[tactic(auto, using(crate::proofs::MonthLemmas::months_of_year))]
 fn month_in(year: u16, number: u8) -> Option<Month>
     requires { has_month year 1 ≡ true }
@@ -38,7 +38,7 @@ fn month_in(year: u16, number: u8) -> Option<Month>
     Month::of(year, number)
 }
 
-// The month of this year that stands at the front.
+// The month of this year whose number is at the front.
 #[tactic(auto, unfolding(crate::specs::Reading::value_at, crate::specs::Fields::format))]
 pub(crate) fn read_month(
     total: usize,

@@ -15,7 +15,7 @@ use moments::Moment;
 use office_types::{Command, Entry, Token};
 use std::alloc::Global;
 
-// The kind of a command, and whether a token stands behind it.
+// The kind of a command, and whether a token follows.
 #[tactic(auto, unfolding(crate::specs::Reading::value_at, crate::specs::Kinds::head_format))]
 fn head_in(total: usize, bytes: &[u8]) -> Result<((Kind, bool), &[u8]), EntryFault>
     ensures { EntryGives (λ x. (x.0, x.1.now)) result (value_at head_format total bytes.now) }
@@ -29,7 +29,7 @@ fn head_in(total: usize, bytes: &[u8]) -> Result<((Kind, bool), &[u8]), EntryFau
     }
 }
 
-// The token behind a kind that says that there is one.
+// The token, if the kind says that there is one.
 #[tactic(auto, unfolding(crate::specs::Reading::token_at))]
 fn token_in(
     alloc: Global,
@@ -48,7 +48,7 @@ fn token_in(
     }
 }
 
-// A kind, the token behind it, the fields that it has, and nothing behind them.
+// A kind, the token after it, its fields, and no bytes after them.
 #[tactic(auto, unfolding(crate::specs::Reading::command_at))]
 fn command_in(
     alloc: Global,
@@ -94,7 +94,7 @@ fn whole_entry(alloc: Global, bytes: &[u8]) -> Result<Entry, EntryFault>
     })
 }
 
-/// Reads the entry that the bytes spell, all of the bytes.
+/// Reads the entry that all of the bytes spell.
 ///
 /// Cost: one pass over the bytes, and memory for the name, the key and the tags; for rules a second pass over their
 /// text, which is printed again, and memory for its JSON. It takes memory only for what the bytes hold, whatever
@@ -102,26 +102,26 @@ fn whole_entry(alloc: Global, bytes: &[u8]) -> Result<Entry, EntryFault>
 ///
 /// # Errors
 ///
-/// `BadEntry`: the bytes are the spelling of no entry; fields are tested from left to right. `NoMemory`: memory ran out
-/// before a later field was tested.
+/// `BadEntry`: the bytes are not the spelling of an entry; fields are tested from left to right. `NoMemory`: memory ran
+/// out before a later field was tested.
 pub fn decode(alloc: Global, bytes: &[u8]) -> Result<Entry, EntryFault>
-    // What is read is spelled so.
+    // The bytes are the spelling of the entry that is read.
     ensures found { IfOk result (λ e. EntryFits e × (bytes.now ≡ spelling e)) }
-    // What is spelled so is read, unless memory runs out.
+    // Each spelling of an entry is read, unless memory runs out.
     ensures only { (e : Entry) → EntryFits e → bytes.now ≡ spelling e → EntryGives (λ x. x) result (Ok e) }
-    // Which fault it is.
+    // Which fault is reported, and at which offset.
     ensures exact { EntryGives (λ e. e) result (entry_of bytes.now) }
 {
     whole_entry(alloc, bytes)
 }
 
-/// States that a spelling is that of one entry.
+/// States that no two entries have the same spelling.
 pub fn one_spelling()
     ensures same { (a b : Entry) → EntryFits a → EntryFits b → spelling a ≡ spelling b → a ≡ b }
 {}
 
-/// States of each row of the table that the values of its fields are read again from what is written of them, that
-/// nothing else is read, and that, where they are not those of another kind, they are those of the row's command.
+/// States of each row of the table: the values of its fields are read back from their bytes, and nothing else is read.
+/// Values that do not belong to another kind are those of the row's command.
 pub fn each_row_reads_back()
     ensures again { (kind : Kind) (values : Values (fields_of kind)) (total : ℕ) (rest : List ℕ)
         → are_values (fields_of kind) values ≡ true

@@ -1,4 +1,4 @@
-// Configurations, each in the one text that it has.
+// Configurations, each with its one text.
 ghost use Rattle.std.specs.Prelude.{◌≡◌, ◌++◌, IfOk, OnOk, length, true, string_bytes};
 ghost use Rattle.std.specs.Str.{bytes_eq};
 ghost use Rattle.rules_core.specs.Configurations.{IsConfiguration};
@@ -21,7 +21,7 @@ fn text_of(alloc: Global, rules: &RuleSet) -> Result<String, NoMemory>
     ensures text { IfOk result (λ text. string_bytes text ≡ printed rules.now) }
     ensures kept { IsConfiguration rules.now }
 {
-    // Called for its clause alone, that the rules keep all conditions.
+    // Called only for its clause, that the rules keep all conditions.
     let _kept = rules.rules();
     print_rules(alloc, rules)
 }
@@ -36,7 +36,7 @@ fn is_text_of(alloc: Global, bytes: &[u8], rules: &RuleSet) -> Result<bool, NoMe
     }
 }
 
-/// The configuration whose one text this is.
+/// Reads the configuration whose one text this is; `None` if there is none.
 #[tactic(auto, using(crate::proofs::RulesTexts::which_rules))]
 pub fn rules_in(alloc: Global, text: &[u8]) -> Result<Option<RuleSet>, NoMemory>
     ensures { Finds (λ rules. rules) result (rules_texts.value text.now) }
@@ -72,7 +72,7 @@ pub(crate) fn rules_of(
     }
 }
 
-/// The text behind its length.
+/// Writes the text of a configuration after its length.
 #[tactic(auto, using(crate::proofs::RulesTexts::rules_fit), unfolding(crate::specs::Fields::format))]
 pub fn put_rules(out: &mut Vec<u8>, rules: &RuleSet) -> Result<(), AllocError>
     ensures bytes { OnOk result (out.new.items ≡ out.old.items ++ (format field.Rules).written rules.now) }

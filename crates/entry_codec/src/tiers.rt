@@ -1,4 +1,4 @@
-// Tiers: their number in a byte, and of each its end, 0 where it has none, and its price, in four bytes each.
+// Tiers: their number in one byte, and for each its end, 0 if it has none, and its price, in four bytes each.
 ghost use Rattle.std.specs.Prelude.{◌≡◌, ◌≤◌, ◌++◌, Some, true, map, option_map, take, length, OnOk};
 ghost use Rattle.std.specs.List.{list_all, flat_map};
 ghost use Rattle.tariff.specs.Prices.{are_tiers};
@@ -38,7 +38,7 @@ fn tier_in(bytes: &[u8]) -> Option<(Tier, &[u8])>
     Some((tier_of(upto, price), rest))
 }
 
-// So many tiers, at the front of the room.
+// Reads this many tiers into the front of the room.
 fn list_in<'a>(count: u8, bytes: &'a [u8], room: &mut [Tier]) -> Option<&'a [u8]>
     requires { count ≤ length room.old }
     ensures { option_map (λ rest. (take count room.new, rest.now)) result ≡ front_items tier_format count bytes.now }
@@ -54,7 +54,7 @@ fn list_in<'a>(count: u8, bytes: &'a [u8], room: &mut [Tier]) -> Option<&'a [u8]
     Some(rest)
 }
 
-/// Reads the tiers of a class; None where the bytes are no tiers.
+/// Reads the tiers of a class; `None` if the bytes do not begin with tiers.
 pub fn tiers_in(bytes: &[u8]) -> Option<(Tiers, &[u8])>
     ensures { option_map (λ x. (x.0, x.1.now)) result ≡ (format field.Tiers).front bytes.now }
 {
@@ -105,7 +105,7 @@ pub(crate) fn storage_of<'a>(
     Ok(rest)
 }
 
-// One tier, which costs nothing.
+// One tier, with the price 0.
 pub(crate) fn free() -> Tiers {
     match Tiers::one(0) {
         Some(tiers) => tiers,
@@ -133,7 +133,7 @@ fn put_tiers(out: &mut Vec<u8>, tiers: &Tiers) -> Result<(), AllocError>
     Ok(())
 }
 
-/// The tiers of each class.
+/// Writes the tiers of each class.
 pub fn put_storage(out: &mut Vec<u8>, storage: &[Tiers]) -> Result<(), AllocError>
     ensures bytes { OnOk result
         (out.new.items ≡ out.old.items ++ flat_map (format field.Tiers).written storage.now) }
@@ -179,7 +179,7 @@ fn have_one(storage: &[Tiers]) -> bool
     storage.iter().all(|tiers| has_one(tiers))
 }
 
-// The tariff holds at all times, with one price for each class.
+// Whether the tariff holds at all times, with one price for each class.
 pub(crate) fn is_plain(tariff: &Tariff) -> bool
     ensures { result ≡ is_plain tariff.now }
 {

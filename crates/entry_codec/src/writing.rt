@@ -14,12 +14,12 @@ use office_base::NoMemory;
 use office_types::{Command, Entry, Token};
 use std::alloc::{AllocError, Global};
 
-/// The most bytes of an entry's spelling: 256 MiB. Own rule: the longest entry sets a bucket's rules, whose text has at
-/// most 170,001,650 bytes (1,000 rules of 170,000 each); with the bucket's name it has 170,001,728, and this is the
-/// next power of two. A reader can refuse what is longer before it takes memory for it.
+/// The most bytes of an entry's spelling: 256 MiB. Own rule: the longest entry sets a bucket's rules. Their text has at
+/// most 170,001,650 bytes (1,000 rules of 170,000 each), and the entry 170,001,728. The limit is the next power of two.
+/// A reader can refuse a longer entry before it takes memory for it.
 pub const ENTRY_LIMIT: u64 = 268_435_456;
 
-// The bytes that most entries stay below: a buffer of as many need not grow for one.
+// Most entries are shorter: a buffer of this size need not grow for one.
 const USUAL_BYTES: usize = 96;
 
 #[tactic(auto, unfolding(crate::specs::Spelling::command_spelling))]
@@ -61,13 +61,13 @@ fn written(
     }
 }
 
-/// Writes the one spelling of the entry that a command has at a moment, with a token or without. A command that carries
-/// a token may carry one.
+/// Writes the one spelling of the entry that a command has at a moment, with or without a token. Only a command that
+/// may carry a token has one.
 ///
 /// Own rule: the moment in ms in eight bytes, the kind of the command in one, then its fields, most significant byte
-/// first; so an entry can be found again from its bytes alone. With a token the kind is 80 (hexadecimal) higher, and
-/// the token stands behind it, after its length in one byte. Cost: one pass over the fields, and memory for the
-/// bytes; rules are printed, which takes memory for their JSON.
+/// first. So an entry can be read back from its bytes only. With a token the kind is 80 (hexadecimal) higher, and the
+/// token follows it, after its length in one byte. Cost: one pass over the fields, and memory for the bytes; rules are
+/// printed, which takes memory for their JSON.
 ///
 /// # Errors
 ///
@@ -81,7 +81,7 @@ pub fn encode_command(
     requires carries { MayCarry (option_copied token) command.now }
     ensures bytes { IfOk result
         (λ bytes. bytes.items ≡ spelling (entry_with moment (option_copied token.entry) command.now)) }
-    // They are an entry's, which decoding gives back.
+    // The bytes are an entry, which `decode` reads back.
     ensures entry { IfOk result
         (λ bytes. EntryFits (entry_with moment (option_copied token.entry) command.now) × IsEntry bytes.items) }
 {
@@ -96,7 +96,7 @@ pub fn encode_command(
 pub fn encode(alloc: Global, entry: &Entry) -> Result<Vec<u8>, NoMemory>
     requires carries { MayCarry entry.now.token entry.now.command }
     ensures bytes { IfOk result (λ bytes. bytes.items ≡ spelling entry.now) }
-    // They are an entry's, which decoding gives back.
+    // The bytes are an entry, which `decode` reads back.
     ensures entry { IfOk result (λ bytes. EntryFits entry.now × IsEntry bytes.items) }
 {
     encode_command(alloc, entry.moment, entry.token.as_ref(), &entry.command)
@@ -105,7 +105,7 @@ pub fn encode(alloc: Global, entry: &Entry) -> Result<Vec<u8>, NoMemory>
 /// States that no entry has a spelling of more than `ENTRY_LIMIT` bytes.
 pub fn short_spelling()
     ensures short { (e : Entry) → EntryFits e → length (spelling e) ≤ entry_limit }
-    // One that sets no rules has far fewer: at most ten of the longest tags, and a token.
+    // An entry that sets no rules is far shorter: at most ten of the longest tags, and a token.
     ensures other { (e : Entry) → EntryFits e → ((parts_of e.command).kind ≡ Kind.SetRules → ⊥)
         → length (spelling e) ≤ 16_575 }
 {}
