@@ -27,11 +27,11 @@ IsWritten file old new = (n : ℕ) × Rose old.writes n × (new ≡ record (mark
 abbrev pub IsSynced : FileNo → Tally → Tally → Type 0
 IsSynced file old new = (n : ℕ) × Rose old.syncs n × (new ≡ record (marked file false old) { syncs = n })
 
--- n syncs or more were done
+-- at least n syncs were done; the count stops at the greatest u64
 abbrev pub SyncedTimes : ℕ → Tally → Tally → Type 0
 SyncedTimes n old new = min (old.syncs + n) (2 ^ 64 - 1) ≤ new.syncs
 
--- n syncs or more were done, and no write or cut of the journal came after the last. Whether a slot is to be synced is
+-- At least n syncs were done, and no write or cut of the journal came after the last. Whether a slot needs a sync is
 -- as before.
 pub record EndsSynced (n : ℕ) (old new : Tally) : Type 0 where
   pub syncs : SyncedTimes n old new

@@ -19,7 +19,7 @@ module _ {V : Type 0} {spells : List ℕ → V → Type 0} where
   pub no_head : (file : List ℕ) (value : V) (position : ℕ) → HasHead None file → Keeps spells value position file → ⊥
   no_head file value position none keeps = none position keeps.body keeps.holds
 
-  -- the body that it keeps is that behind its head
+  -- the body that it keeps is that after its head
   pub body_of_head : (head : Head) (file : List ℕ) (value : V) (position : ℕ) → HasHead (Some head) file
       → (keeps : Keeps spells value position file) → keeps.body ≡ body_at head.size file
   body_of_head head file value position is keeps =

@@ -1,4 +1,4 @@
--- The gate of a file stays while it is written behind it.
+-- The gate of a file stays while it is written after it.
 use Rattle.std.proofs.Common.{ℕ, ◌≤◌, List, Result}
 use Rattle.std.specs.Prelude.{OnOk, OnErr}
 use Rattle.disk_core.specs.declared.disk.Disk as disks
@@ -14,7 +14,7 @@ use Rattle.slots.proofs.OneFile.{only_wrote, only_after_sync}
 
 module _ {D : Type 0} {d : disks.Ghosts D} {old mid new : D} {m : ℕ} {front : List ℕ} {file : FileNo} {first : State}
     (run : KeepsTo d old mid (OnlyIn file (KeepsFront m front) first)) (time : Elapses d.state d.moment d.had_since mid new) where
-  -- one write behind the front, as one call more of a run
+  -- one write after the front, as one call more of a run
   pub front_on : (at n : ℕ) → m ≤ at → Wrote file at n (d.state mid) (d.state new) → KeepsTo d old new (OnlyIn file (KeepsFront m front) first)
   front_on at n le wrote = goes_on run time
       (only_wrote (KeepsFront m front) file at n first (d.state mid) (d.state new) run.now wrote

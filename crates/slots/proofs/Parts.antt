@@ -82,7 +82,7 @@ pub old_start : (bytes : List ℕ) (new : Kept) (f : File) → f ≡ synced_file
 old_start bytes new f is image old is_image holds =
     inl (subst (Holds old) (synced_image bytes image (subst (λ (x : File). IsImage x image) is is_image)) holds)
 
--- while the gate is closed: where it was open the old slot is there or none, and in an empty file is none
+-- while the gate is closed: if it was open the old slot is there or none, and in an empty file is none
 pub while_shut : (bytes : List ℕ) (new : Kept) (f : File) → IsToShut bytes → IsInPart 0 1 bytes f → HasOldOrNew bytes new f
 while_shut bytes new f (inl empty) each image old is_image holds =
     let part = each image is_image in
@@ -96,7 +96,7 @@ while_shut bytes new f (inr (rest, parts)) each image old is_image holds =
     ∙ sym parts in
     inl (subst (Holds old) same holds)
 
--- behind a closed gate there is none
+-- after a closed gate there is none
 pub behind_shut : (bytes : List ℕ) (new : Kept) (f : File) (gate : ℕ) → gate ≢ 0xA7 → KeepsFront 1 (gate ∷ []) f → HasOldOrNew bytes new f
 behind_shut bytes new f gate closed keeps image old is_image holds =
     let front = front_image 1 (gate ∷ []) f image keeps is_image in
@@ -122,7 +122,7 @@ while_opened old_bytes bytes tail new gate f small_position small_body parts eac
 pub shut_by : (bytes : List ℕ) → IsShut (put 0 (0 ∷ []) bytes)
 shut_by bytes = record { gate = 0; rest = drop 1 bytes; parts = refl; closed = omega arith }
 
--- the text behind a gate
+-- the text after a gate
 pub with_text : (gate : ℕ) (rest text : List ℕ) → put 1 text (gate ∷ rest) ≡ gate ∷ (text ++ drop (length text) rest)
 with_text gate rest text = ap (λ (l : List ℕ). gate ∷ (text ++ l)) (sym (drop-drop (length text) 1 (gate ∷ rest)))
 

@@ -11,7 +11,7 @@ use Rattle.slots.specs.Slots.{Keeps}
 use Rattle.slots.specs.Loading.{IsLoaded, SparesLoaded, pair_in}
 use Rattle.slots.specs.Saving.{OnlyIn, IsNarrower, NarrowerSlots, SyncedSlots, Kept, Holds, HasOldOrNew, HasEarlierOrNew, OldOrNew, EachKeeps, IsSaved, IsWritten}
 
--- what holds of Ok, where it is not Err
+-- what holds of Ok, if it is not Err
 pub not_err : {T E : Type 0} (result : Result T E) (P : Type 0) → false ≡ is_err result → OnOk result P → P
 not_err (Ok x) P is holds = holds
 not_err (Err e) P is holds = absurd (false≢true is)

@@ -1,4 +1,4 @@
--- What an open slot tells, and from what it is told.
+-- What an open slot holds, and which bytes are such a slot.
 use Rattle.std.proofs.Common.{◌≡◌, ℕ, ◌+◌, ◌^◌, ◌<◌, ◌≤◌, ◌-◌, List, ◌∷◌, ◌++◌, length, get_or, take, drop, refl, sym, ◌∙◌, ap, arith, append_assoc, length-append, take-append-drop}
 use Rattle.std.specs.Int.{w64, to_be_bytes, from_be_bytes}
 use Rattle.std.proofs.lemmas.Nat.{from_be_bytes-to_be_bytes_8}
@@ -72,7 +72,7 @@ one_body p q a b file first second =
     ∙ ap (λ (n : ℕ). body_at n file) (sym (size_is first) ∙ size_is second)
     ∙ body_is second
 
--- an open gate, with both numbers and the body behind it
+-- an open gate, with both numbers and the body after it
 pub holds_from : (position size : ℕ) (file : List ℕ) → get_or file 0 0 ≡ 0xA7 → to_be_bytes w64 position ≡ take 8 (drop 1 file)
     → to_be_bytes w64 size ≡ take 8 (drop 9 file) → 17 + size ≤ length file → position < 2 ^ 64 → size < 2 ^ 64
     → HoldsBody position (body_at size file) file
@@ -98,7 +98,7 @@ holds_from position size file gate number count fits small_position small_size =
       body_fits = omega (arith, size_of, small_size);
     }
 
--- the same bytes behind an open gate
+-- the same bytes after an open gate
 pub holds_behind : (position : ℕ) (body file rest : List ℕ) → position < 2 ^ 64 → length body < 2 ^ 64
     → file ≡ 0xA7 ∷ (text_of position body ++ rest) → HoldsBody position body file
 holds_behind position body file rest small_position small_body parts = record {

@@ -1,5 +1,5 @@
--- Which of the two slots is loaded: of those that decode the one with the greatest position, and of two with the same
--- position the first.
+-- Which of the two slots is loaded: of those that decode, the one with the greatest position; if both have the same
+-- position, the first.
 use Rattle.std.specs.Prelude.{◌⊎◌, ℕ, ◌<◌, ◌≤◌, List, Option, Some, None}
 use Rattle.disk_core.specs.declared.disk.FileNo.{FileNo}
 use Rattle.disk_core.specs.declared.disk.FileNo.TheVariants.{Journal, Slot0, Slot1}
@@ -48,7 +48,7 @@ module _ {V : Type 0} (spells : List ℕ → V → Type 0) where
     pub slot0 : (value : V) (position : ℕ) → Keeps spells value position slots.slot0 → ⊥
     pub slot1 : (value : V) (position : ℕ) → Keeps spells value position slots.slot1 → ⊥
 
-  -- what loading gives: what the slot keeps that is loaded, and nothing exactly where neither decodes
+  -- what loading gives: what the loaded slot keeps; nothing if and only if neither slot decodes
   abbrev pub LoadGives : Option (V × ℕ) → Pair → Type 0
   LoadGives (Some loaded) slots = IsLoaded loaded.0 loaded.1 slots
   LoadGives None slots = KeepsNone slots

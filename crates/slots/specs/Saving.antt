@@ -22,25 +22,25 @@ pub record Kept : Type 0 where
 abbrev pub kept : ℕ → List ℕ → Kept
 kept position body = record { position = position; body = body }
 
--- the slot is open for it
+-- the file is a slot that is open with this body at this position
 abbrev pub Holds : Kept → List ℕ → Type 0
 Holds kept file = HoldsBody kept.position kept.body file
 
--- what an open slot of an image has, these bytes have, or it is the new one
+-- if an image of the file is open with some body, these bytes are open with the same body, or it is the new one
 abbrev pub HasOldOrNew : List ℕ → Kept → File → Type 0
 HasOldOrNew bytes new f = (image : List ℕ) (kept : Kept) → IsImage f image → Holds kept image
     → Holds kept bytes ⊎ (kept ≡ new)
 
--- some image of the file was open for it
+-- some image of the file is open with this body
 abbrev pub WasHeld : File → Kept → Type 0
 WasHeld f kept = (image : List ℕ) × IsImage f image × Holds kept image
 
--- what an open slot of an image has, an image of the file had at first, or it is the new one
+-- if an image of the file is open with some body, an image of the first file was open with it, or it is the new one
 abbrev pub HasEarlierOrNew : File → Kept → File → Type 0
 HasEarlierOrNew first new f = (image : List ℕ) (kept : Kept) → IsImage f image → Holds kept image
     → WasHeld first kept ⊎ (kept ≡ new)
 
--- so it is in both slots; the journal file is as it was
+-- in both slots, each open image has an earlier body or the new one; the journal file is as it was
 pub record OldOrNew (new : Kept) (first s : State) : Type 0 where
   pub slot0 : HasEarlierOrNew first.slot0 new s.slot0
   pub slot1 : HasEarlierOrNew first.slot1 new s.slot1
@@ -74,7 +74,7 @@ pub record IsWritten (file : FileNo) (new : Kept) (first s : State) : Type 0 whe
   pub holds : Holds new bytes
   pub state : s ≡ with_file file (synced_file bytes) first
 
--- each image of the file is what a part of a write of n bytes over these leaves
+-- each image of the file is what a partial write of n bytes at this offset leaves of these bytes
 abbrev pub IsInPart : ℕ → ℕ → List ℕ → File → Type 0
 IsInPart at n bytes f = (image : List ℕ) → IsImage f image → Part at n bytes image
 
@@ -85,6 +85,6 @@ pub record IsShut (bytes : List ℕ) : Type 0 where
   pub parts : bytes ≡ gate ∷ rest
   pub closed : gate ≢ 0xA7
 
--- they are none, or begin with an open gate
+-- the bytes are none, or begin with an open gate
 abbrev pub IsToShut : List ℕ → Type 0
 IsToShut bytes = (bytes ≡ []) ⊎ ((rest : List ℕ) × (bytes ≡ 0xA7 ∷ rest))

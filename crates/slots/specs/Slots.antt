@@ -1,5 +1,5 @@
--- A slot: a file that keeps a body, and the position in the journal up to which the body tells what happened. Its first
--- byte is a gate: A7 is open, any other byte is closed (own).
+-- A slot: a file that keeps a body, and the position in the journal up to which the body records what happened. Its
+-- first byte is a gate: A7 is open, any other byte is closed (own).
 use Rattle.std.specs.Prelude.{◌≡◌, ℕ, ◌^◌, ◌<◌, ◌≤◌, List, ◌∷◌, ◌++◌, length}
 use Rattle.std.specs.Int.{w64, to_be_bytes}
 
