@@ -91,7 +91,7 @@ pub follow_decides : (n : ℕ) (closed : List (ℕ × Prices)) → Decides (foll
 follow_decides n [] = (λ e. tt, λ f. refl)
 follow_decides n (month ∷ closed) = both _ _ (eq month.0 n) (follow_decides (n + 1) closed)
 
--- the end of the last of these months, and this moment where there is none
+-- the end of the last of these months, and this moment if there is none
 abbrev pub end_after : ℕ → List (ℕ × Prices) → ℕ
 end_after end [] = end
 end_after end (month ∷ closed) = end_after (month_end month.0) closed

@@ -48,7 +48,7 @@ one_come t (c ∷ cs) e = by (leb (t + 1) c.action.since) refl (one_come t cs)
 abbrev first_action : List Candidate → Option Action
 first_action cs = option_map (λ (c : Candidate). c.action) (least comes_before cs)
 
--- where nothing is chosen at a moment, no action stands before the next one
+-- if nothing is chosen at a moment, no action stands before the next one
 pub no_choice : (bucket : BucketRecord) (t : ℕ) → choice bucket t ≡ None → is_quiet (t + 1) bucket ≡ true
 unfolding choice candidates
 no_choice bucket t off = by (is_quiet (t + 1) bucket) refl
@@ -60,7 +60,7 @@ no_choice bucket t off = by (is_quiet (t + 1) bucket) refl
         let there : first_action (one.0 ∷ one.1) ≡ None = ap first_action (sym one.2) ∙ off in
         absurd cc
 
--- and where something is chosen, one does
+-- and if something is chosen, one does
 pub some_choice : (bucket : BucketRecord) (t : ℕ) (action : Action) → choice bucket t ≡ Some action → is_quiet (t + 1) bucket ≡ false
 unfolding choice candidates
 some_choice bucket t action chosen = by (is_quiet (t + 1) bucket) refl

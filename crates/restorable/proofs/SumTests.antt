@@ -17,7 +17,7 @@ small_decides s =
     (at_each (λ n. ltb n (2 ^ 120)) (λ n. n < 2 ^ 120) (λ n. lt n (2 ^ 120)) s.early))
     (at_each (λ n. ltb n (2 ^ 62)) (λ n. n < 2 ^ 62) (λ n. lt n (2 ^ 62)) s.moves))
 
--- where the first does not hold the second does
+-- if the first does not hold the second does
 either : (a : Bool) (m n : ℕ) → Decides (a || ltb m n) (a ≡ false → m < n)
 either a m n = (to, back)
   where

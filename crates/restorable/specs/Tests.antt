@@ -1,4 +1,4 @@
--- What is asked of a snapshot from which an office is restored, part by part, each as a test.
+-- What a snapshot needs so that an office can be restored from it, part by part, each as a test.
 use Rattle.std.specs.Prelude.{ℕ, ◌+◌, ◌-◌, ◌^◌, min, Bool, true, false, not, ◌&&◌, ◌||◌, ◌==◌, nat_le, nat_lt, List, [], ◌∷◌, length, Option, Some, None, sum_by}
 use Rattle.std.specs.Bool.{beq}
 use Rattle.std.specs.List.{list_all, list_any}
@@ -51,13 +51,13 @@ capped n = min n (2 ^ 64 - 1)
 
 -- ---- the sums of a bucket
 
--- the numbers are in the range from which meters go on
+-- the numbers are small enough for meters to go on from them
 abbrev pub is_small_month : MonthSums → Bool
 is_small_month sums =
     list_all (λ n. nat_lt n (2 ^ 120)) sums.ended && list_all (λ n. nat_lt n (2 ^ 120)) sums.early
     && list_all (λ n. nat_lt n (2 ^ 62)) sums.moves
 
--- the month has begun by the last moment, and where stays have ended in it, before that moment
+-- the month has begun by the last moment, and before that moment if stays have ended in it
 abbrev pub has_begun : ℕ → MonthSums → Bool
 has_begun last sums =
     nat_le (month_start sums.month) last && (list_all is_zero sums.ended || nat_lt (month_start sums.month) last)
@@ -86,25 +86,25 @@ abbrev pub is_null : VersionId → Bool
 is_null Null = true
 is_null (Number n) = false
 
--- there is one version alone: the null version, which is an object
+-- there is exactly one version: the null version, which is an object
 abbrev pub is_one_null_object : List Version → Bool
 is_one_null_object [] = false
 is_one_null_object (version ∷ others) = (length others == 0) && is_null version.id && is_object version.kind
 
--- the versions are such as a bucket with this versioning has
+-- the versions of a key that a bucket with this versioning may have
 abbrev pub fit_versioning : Versioning → List Version → Bool
 fit_versioning Unversioned versions = is_one_null_object versions
 fit_versioning Enabled versions = true
 fit_versioning Suspended versions = true
 
--- a stack that a bucket may have whose next version has this number, at this moment
+-- a stack that a bucket may have at this moment, if its next version has this number
 abbrev pub is_orderly_stack : Versioning → ℕ → ℕ → StackRecord → Bool
 is_orderly_stack versioning next last stack =
     not (length stack.versions == 0) && is_stack stack.changed stack.versions
     && list_all (is_version next) stack.versions && fit_versioning versioning stack.versions
     && nat_le stack.changed last
 
--- an upload that a bucket may have whose next upload has this number, at this moment
+-- an upload that a bucket may have at this moment, if its next upload has this number
 abbrev pub is_orderly_upload : ℕ → ℕ → ℕ × UploadRecord → Bool
 is_orderly_upload next last upload =
     nat_lt upload.0 next && are_parts upload.1.started upload.1.changed upload.1.parts
@@ -132,7 +132,7 @@ abbrev pub is_orderly_bucket : ℕ → BucketRecord → Bool
 is_orderly_bucket last bucket =
     has_numbers last bucket && are_orderly_stacks last bucket && are_orderly_uploads last bucket
 
--- what is kept of a bucket at this moment
+-- the records and sums of a bucket that an office may have at this moment
 abbrev pub is_orderly_part : ℕ → BucketPartRecord → Bool
 is_orderly_part last part = is_orderly_bucket last part.bucket && are_months last part.sums
 
@@ -152,7 +152,7 @@ names_rise before (part ∷ parts) = is_above before part.name && names_rise (So
 abbrev pub over_parts : (BucketRecord → ℕ) → List BucketPartRecord → ℕ
 over_parts count parts = sum_by (λ part. count part.bucket) parts
 
--- as much as an office may have of each kind that has a limit
+-- no count is above what an office may have
 abbrev pub are_within : SnapshotRecord → Bool
 are_within snapshot =
     nat_le (length snapshot.buckets) 1_000 && nat_le (length snapshot.tariffs) 100
@@ -176,30 +176,30 @@ are_closed last first_open closed =
 
 -- ---- kept replies
 
--- the command may carry a token, and what is kept besides is what the reply tells that follows
+-- the command may carry a token, and the marker flag and the number kept are those of the reply that follows from them
 abbrev pub is_kept : Kept → Bool
 is_kept kept =
     takes_token kept.command && beq kept.marker (tells_marker (reply_of kept))
     && (kept.told == number_told (reply_of kept))
 
--- no two are kept under one token
+-- no two kept replies have the same token
 abbrev pub tokens_differ : List Kept → Bool
 tokens_differ [] = true
 tokens_differ (first ∷ kept) = not (list_any (λ other. bytes_eq first.token other.token) kept) && tokens_differ kept
 
--- the kept replies are not too many, and each has a token of its own
+-- the kept replies are not too many, each is one that may be kept, and no two have the same token
 abbrev pub are_kept : List Kept → Bool
 are_kept kept = nat_le (length kept) most_kept && list_all is_kept kept && tokens_differ kept
 
 -- ---- the snapshot
 
--- there is nothing
+-- there are no buckets, tariffs, closed months or kept replies
 abbrev pub is_blank : SnapshotRecord → Bool
 is_blank snapshot =
     (length snapshot.buckets == 0) && (length snapshot.tariffs == 0) && (length snapshot.closed == 0)
     && (length snapshot.kept == 0)
 
--- a snapshot whose last moment and first open month are these
+-- a snapshot that an office with this last moment and this first open month may have
 abbrev pub is_orderly_at : ℕ → ℕ → SnapshotRecord → Bool
 is_orderly_at last first_open snapshot =
     are_within snapshot && names_rise None snapshot.buckets && list_all (is_orderly_part last) snapshot.buckets
@@ -207,7 +207,7 @@ is_orderly_at last first_open snapshot =
     && are_kept snapshot.kept
     && list_all (λ part. is_quiet (last_end snapshot.closed) part.bucket) snapshot.buckets
 
--- an office is restored from it
+-- an office can be restored from it
 abbrev pub is_restorable : Option ℕ → Option ℕ → SnapshotRecord → Bool
 is_restorable None None snapshot = is_blank snapshot
 is_restorable None (Some first_open) snapshot = false

@@ -1,4 +1,4 @@
-// How much there is in the buckets of a snapshot of each kind that has a limit. A count stops at the greatest u64.
+// How much the buckets of a snapshot have of each kind that has a limit. A count stops at the greatest u64.
 ghost use Rattle.std.specs.Prelude.{◌≡◌, ◌+◌, length, sum_by, IfOk};
 ghost use Rattle.office_base.specs.Tags.{tags_of};
 ghost use Rattle.plain_office.specs.Counts.{version_count, part_count, name_bytes, rules_bytes};

@@ -8,7 +8,7 @@ ghost use Rattle.restorable.specs.Tests.{is_kept, tokens_differ, are_kept};
 use office_base::NoMemory;
 use office_types::{Command, Kept, Token, marker_told, number_told};
 
-// So many replies are kept at most.
+// The most replies that are kept.
 const MOST_KEPT: usize = 10_000;
 
 // Whether the command may carry a token.
@@ -56,7 +56,7 @@ fn has_token(token: &Token, all: &[Kept]) -> bool
     all.iter().any(|other| is_same(token, &other.token))
 }
 
-// Whether no two are kept under one token.
+// Whether no two kept replies have the same token.
 fn do_tokens_differ(all: &[Kept]) -> bool
     ensures { result ≡ tokens_differ all.now }
 {

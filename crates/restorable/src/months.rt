@@ -11,10 +11,10 @@ use accrual::MonthSums;
 use moments::{Moment, Month, month_window};
 use tariff::Tariff;
 
-// The sums from which meters go on are below this.
+// The sums are below this, so that meters can go on from them.
 const SUM_END: u128 = 0x100_0000_0000_0000_0000_0000_0000_0000;
 
-// And the numbers of moves below this.
+// The numbers of moves are below this.
 const MOVES_END: u64 = 0x4000_0000_0000_0000;
 
 fn are_small(numbers: &[u128; 6]) -> bool
@@ -123,7 +123,7 @@ fn do_follow(first: u64, closed: &[(Month, Tariff)]) -> bool
     true
 }
 
-// The end of the last closed month; 0 where there is none.
+// The end of the last closed month; 0 if there is none.
 #[tactic(auto, using(crate::proofs::NameTests::end_from))]
 pub(crate) fn end_of_closed(closed: &[(Month, Tariff)]) -> u64
     ensures { result ≡ last_end closed.now }

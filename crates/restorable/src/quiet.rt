@@ -20,7 +20,7 @@ fn is_quiet_until(last: Moment, bucket: &Bucket) -> Result<bool, NoMemory>
     }
 }
 
-// Whether none stands before the moment.
+// Whether no eligible action of the bucket stands before the moment.
 fn is_quiet(until: u64, bucket: &Bucket) -> Result<bool, NoMemory>
     requires { until < end_of_time }
     ensures { IfOk result (λ yes. yes ≡ is_quiet until bucket.now) }
@@ -34,7 +34,7 @@ fn is_quiet(until: u64, bucket: &Bucket) -> Result<bool, NoMemory>
     }
 }
 
-// Whether none of any bucket does.
+// Whether no eligible action of any bucket stands before the moment.
 pub(crate) fn are_quiet(until: u64, parts: &[BucketPart]) -> Result<bool, NoMemory>
     requires { until < end_of_time }
     ensures { IfOk result (λ yes. yes ≡ list_all (λ part. is_quiet until part.bucket) parts.now) }

@@ -72,7 +72,7 @@ fn is_object(kind: &Kind) -> bool
     }
 }
 
-// Whether there is one version alone: the null version, which is an object.
+// Whether there is exactly one version: the null version, which is an object.
 fn is_one_null_object(versions: &[Version]) -> bool
     ensures { result ≡ is_one_null_object versions.now }
 {

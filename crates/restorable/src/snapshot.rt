@@ -62,7 +62,7 @@ fn passes(alloc: Global, snapshot: &Snapshot) -> Result<bool, NoMemory>
     }
 }
 
-/// Tells whether an office is restored from the snapshot.
+/// Reports whether an office can be restored from the snapshot.
 ///
 /// Cost: some passes over the snapshot. Each token is compared with each other one. Memory is taken for the text of one
 /// configuration at a time.
