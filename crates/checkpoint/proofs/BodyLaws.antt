@@ -92,7 +92,7 @@ pub body_again : (snapshot : SnapshotRecord) → body_format.has snapshot ≡ tr
 body_again snapshot has =
     ap (λ (l : List ℕ). body_format.front l) (sym (append-nil (body_format.written snapshot))) ∙ body-IsFormat.again snapshot [] has
 
--- what is read as a snapshot, with nothing behind it, is its one spelling
+-- what is read as a snapshot, with nothing after it, is its one spelling
 pub body_takes : (bytes : List ℕ) (snapshot : SnapshotRecord) → IsBytes bytes → body_format.front bytes ≡ Some (snapshot, [])
     → (bytes ≡ body_format.written snapshot) × (body_format.has snapshot ≡ true)
 body_takes bytes snapshot fits e =

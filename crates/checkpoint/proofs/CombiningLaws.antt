@@ -32,7 +32,7 @@ after-IsFormat {X = X} {Y = Y} first second law_first law_second = record { agai
         subst (λ (y : (X × Y) × List ℕ). (bytes ≡ (first.written y.0.0 ++ (second y.0.0).written y.0.1) ++ y.1) × ((after first second).has y.0 ≡ true))
         (same_Some ((a.0.0, b.0.0), b.0.1) x b.2) (whole, and_from _ _ t.1 u.1)
 
--- items one behind the other
+-- items one after the other
 items_again : {X : Type 0} (format : Format X) → IsFormat format → (n : ℕ) (xs : List X) (rest : List ℕ) → length xs ≡ n → list_all format.has xs ≡ true
     → front_items format n (flat_map format.written xs ++ rest) ≡ Some (xs, rest)
 unfolding front_items

@@ -1,4 +1,4 @@
--- The text of a command stands in its entry behind the moment.
+-- The text of a command follows the moment in its entry.
 use Rattle.std.proofs.Common.{◌≡◌, ℕ, Bool, false, Option, Some, sym, ◌-◌, ◌^◌, ◌<◌, true, List, ◌++◌, length, take, drop, None, refl, ap, ◌∙◌, arith, length-append}
 use Rattle.std.proofs.Math.Seq.{take-length}
 use Rattle.std.specs.Int.{w64, to_be_bytes}
@@ -33,7 +33,7 @@ is_short = entry_small
 pub is_kept : (t : ℕ) (c : Command) → EntryFits (entry_with t None c) → takes_token c ≡ true → is_kept_command c ≡ true
 is_kept t c fits takes = and_from _ _ takes fits.command.values
 
--- all behind a place
+-- all after a place
 pub take_rest : (n : ℕ) (xs : List ℕ) → take (length xs - n) (drop n xs) ≡ drop n xs
 take_rest n xs = ap (λ (k : ℕ). take k (drop n xs)) (omega (arith, length-drop n xs)) ∙ take-length (drop n xs)
 
@@ -51,7 +51,7 @@ no_token : (o : Option (List ℕ)) → is_some o ≡ false → o ≡ None
 no_token None is = refl
 no_token (Some token) is = absurd cc
 
--- the text behind the moment of an entry without a token is that of its command
+-- the text after the moment of an entry without a token is that of its command
 text_is : (text : List ℕ) (e : Entry) → moment_format.written 0 ++ text ≡ spelling e → e.token ≡ None → text ≡ command_spelling None e.command
 unfolding spelling moment_format
 text_is text e is none =

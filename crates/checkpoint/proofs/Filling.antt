@@ -39,7 +39,7 @@ module _ {K X : Type 0} (R : K → K → Ordering) where
   all_push p [] e all one = and_from _ _ one refl
   all_push p (f ∷ es) e all one = let parts = and_parts _ _ all in and_from _ _ parts.0 (all_push p es e parts.1 one)
 
-  -- one more key behind all others
+  -- one more key after all others
   pub rise_push : (es : List (K × X)) (e : K × X) → keys_rise R es ≡ true → list_all (before e.0) es ≡ true → keys_rise R (es ++ e ∷ []) ≡ true
   rise_push [] e rise all = refl
   rise_push (f ∷ es) e rise all =
@@ -51,7 +51,7 @@ module _ {K X : Type 0} (R : K → K → Ordering) where
   all_at p [] e more all = (and_parts _ _ all).0
   all_at p (f ∷ es) e more all = all_at p es e more (and_parts _ _ all).1
 
-  -- in front of a key there are lower ones alone
+  -- before a key there are only lower ones
   pub rise_front : (es : List (K × X)) (e : K × X) (more : List (K × X)) → keys_rise R (es ++ e ∷ more) ≡ true → list_all (before e.0) es ≡ true
   rise_front [] e more rise = refl
   rise_front (f ∷ es) e more rise =
@@ -59,7 +59,7 @@ module _ {K X : Type 0} (R : K → K → Ordering) where
       and_from _ _ (all_at (λ other. is_lt (R f.0 other.0)) es e more parts.0) (rise_front es e more parts.1)
 
   module _ (o : IsTotalOrder R) where
-    -- a key behind all others comes last
+    -- a key after all others comes last
     pub insert_last : (es : List (K × X)) (k : K) (v : X) → list_all (before k) es ≡ true → insert_entry R es k v ≡ es ++ (k, v) ∷ []
     insert_last [] k v all = refl
     insert_last (e ∷ es) k v all =
@@ -79,7 +79,7 @@ module _ {K X : Type 0} (R : K → K → Ordering) where
   pub not_past : (last : K × X) (k : K) (es : List (K × X)) (i : ℕ) → slice_get es i ≡ Some last → is_lt (R last.0 k) ≡ false → list_all (before k) es ≡ false
   not_past last k es i at not = list_all_at (before k) es i last (slice_get_within es i last at) (ap (before k) (get_or_from_slice_get es i last last at) ∙ not)
 
-  -- the pairs that are left come behind those of the map, whose keys rise
+  -- the pairs that are left come after those of the map, whose keys rise
   pub record IsFilling (entries left all : List (K × X)) : Type 0 where
     pub whole : entries ++ left ≡ all
     pub rise : keys_rise R entries ≡ true

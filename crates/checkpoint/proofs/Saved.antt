@@ -9,11 +9,11 @@ use Rattle.entry_codec.proofs.Bytes.{IsBytes}
 use Rattle.checkpoint.specs.Bodies.{body_format, Spells}
 use Rattle.checkpoint.proofs.BodyLaws.{body_again, body_takes}
 
--- what is read with nothing behind it, and restored from, is spelled
+-- what is read with nothing after it, and restored from, is spelled
 pub spelled_by : (bytes : List ℕ) (s : SnapshotRecord) → IsBytes bytes → body_format.front bytes ≡ Some (s, []) → IsRestorable s → Spells bytes s
 spelled_by bytes s fits e restorable = let t = body_takes bytes s fits e in record { bytes_are = t.0; in_range = t.1; restorable = restorable }
 
--- a body that is spelled is read, with nothing behind it
+-- a body that is spelled is read, with nothing after it
 reads : (bytes : List ℕ) (s : SnapshotRecord) → Spells bytes s → body_format.front bytes ≡ Some (s, [])
 reads bytes s spelled = ap (λ (l : List ℕ). body_format.front l) spelled.bytes_are ∙ body_again s spelled.in_range
 
@@ -25,7 +25,7 @@ nothing_left none (b ∷ rest) is t = let e : length (b ∷ rest) ≡ 0 = eqb-tr
 pub some_left : (none : Bool) (rest : List ℕ) → none ≡ (length rest == 0) → none ≡ false → rest ≡ [] → ⊥
 some_left none rest is f empty = false≢true (sym f ∙ is ∙ ap (λ (l : List ℕ). length l == 0) empty)
 
--- bytes that spell none: nothing is read, more is left behind it, or no office is restored from it
+-- bytes that spell none: nothing is read, more is left after it, or no office is restored from it
 none_some : {A : Type 0} {x : A} → None ≡ Some x → ⊥
 none_some is = absurd cc
 

@@ -1,4 +1,5 @@
--- The body of a slot: how a snapshot stands in bytes (own). The lists of the buckets stand behind the heads of all.
+-- The body of a slot: how a snapshot is written in bytes (own). The lists of the buckets follow the heads of all
+-- buckets.
 use Rattle.std.specs.Prelude.{◌≡◌, ℕ, true, List, [], ◌∷◌, map, length, Option, Some, None, option_map}
 use Rattle.std.specs.Int.{w8}
 use Rattle.tariff.specs.Prices.{Prices}
@@ -13,25 +14,25 @@ use Rattle.checkpoint.specs.Combining.{after, exactly}
 use Rattle.checkpoint.specs.Parts.{four, last_format, open_format, month_format, tariff_format, stacks_format}
 use Rattle.checkpoint.specs.Parts.{uploads_format, sums_format, Head, head_format, kept_format}
 
--- what is one for the office: the last moment, the first open month, the tariffs and the closed months
+-- what the office has once: the last moment, the first open month, the tariffs and the closed months
 abbrev pub Front : Type 0
 Front = Option ℕ × (Option ℕ × (List Prices × List (ℕ × Prices)))
 
--- these, with a count of one byte before the tariffs
+-- these parts, with the number of tariffs in one byte
 unfoldable pub front_format : Format Front
 front_format = pair last_format
     (pair open_format (pair (list (number w8) tariff_format) (list four (pair month_format tariff_format))))
 
--- the stacks of each bucket, its uploads, and its sums
+-- the stacks, the uploads and the sums of each bucket
 abbrev pub Lists : Type 0
 Lists = List (List (List ℕ × StackRecord)) × (List (List (ℕ × UploadRecord)) × List (List MonthSums))
 
--- those of n buckets: the stacks of all, the uploads of all, and the sums of all
+-- the lists of n buckets: the stacks of all, then the uploads of all, then the sums of all
 unfoldable pub lists_format : ℕ → Format Lists
 lists_format n =
     pair (exactly n stacks_format) (pair (exactly n uploads_format) (exactly n (list four sums_format)))
 
--- what stands of the buckets: their heads, and their lists
+-- what is written of the buckets: their heads, and their lists
 abbrev pub Buckets : Type 0
 Buckets = List Head × Lists
 
@@ -43,7 +44,7 @@ buckets_format = after (list four head_format) (λ heads. lists_format (length h
 abbrev pub BodyParts : Type 0
 BodyParts = Front × (Buckets × List Kept)
 
--- what is one for the office, the buckets, and the kept replies
+-- what the office has once, the buckets, and the kept replies
 unfoldable pub parts_format : Format BodyParts
 parts_format = pair front_format (pair buckets_format (list four kept_format))
 
@@ -68,7 +69,7 @@ buckets_of buckets = (
 abbrev pub parts_of_snapshot : SnapshotRecord → BodyParts
 parts_of_snapshot s = ((s.last, (s.first_open, (s.tariffs, s.closed))), (buckets_of s.buckets, s.kept))
 
--- the bucket of these parts
+-- the bucket with these parts
 abbrev pub bucket_of : Head → List (List ℕ × StackRecord) → List (ℕ × UploadRecord) → List MonthSums → BucketPartRecord
 bucket_of (name, (versioning, (since, (rules, (next_version, next_upload))))) stacks uploads sums = record {
   name = name;
@@ -84,7 +85,7 @@ bucket_of (name, (versioning, (since, (rules, (next_version, next_upload))))) st
   sums = sums;
 }
 
--- the buckets of these parts, if there are as many of each
+-- the buckets with these parts; none if there are not as many of each
 abbrev pub joined : List Head → List (List (List ℕ × StackRecord)) → List (List (ℕ × UploadRecord))
     → List (List MonthSums) → Option (List BucketPartRecord)
 joined [] [] [] [] = Some []
@@ -102,7 +103,7 @@ snapshot_from (last, (first_open, (tariffs, closed))) kept buckets = record {
   kept = kept;
 }
 
--- the snapshot of these parts
+-- the snapshot with these parts; none if the heads and the lists are not as many
 abbrev pub snapshot_value : BodyParts → Option SnapshotRecord
 snapshot_value (front, ((heads, (stacks, (uploads, sums))), kept)) =
     option_map (snapshot_from front kept) (joined heads stacks uploads sums)
@@ -115,7 +116,7 @@ snapshots = record { code = parts_of_snapshot; has = λ s. true; value = snapsho
 unfoldable pub body_format : Format SnapshotRecord
 body_format = coded parts_format snapshots
 
--- the bytes are the body of this snapshot, from which an office is restored
+-- the bytes are the body of this snapshot, and an office can be restored from it
 pub record Spells (bytes : List ℕ) (snapshot : SnapshotRecord) : Type 0 where
   pub bytes_are : bytes ≡ body_format.written snapshot
   pub in_range : body_format.has snapshot ≡ true

@@ -4,7 +4,7 @@ use Rattle.std.specs.List.{flat_map, list_all}
 use Rattle.std.specs.Int.{w8}
 use Rattle.entry_codec.specs.Formats.{Format, ◌>>=◌, number, front_items, Code, coded}
 
--- one value behind another, whose format depends on the first one
+-- one value after another; the format of the second depends on the first
 abbrev pub after : {X Y : Type 0} → Format X → (X → Format Y) → Format (X × Y)
 after first second = record {
   written = λ p. first.written p.0 ++ (second p.0).written p.1;
@@ -12,7 +12,7 @@ after first second = record {
   front = λ bytes. first.front bytes >>= λ x. (second x.0).front x.1 >>= λ y. Some ((x.0, y.0), y.1);
 }
 
--- a list of this length
+-- a list of n values, without a count
 abbrev pub exactly : {X : Type 0} → ℕ → Format X → Format (List X)
 exactly n format = record {
   written = flat_map format.written;
@@ -20,12 +20,12 @@ exactly n format = record {
   front = front_items format n;
 }
 
--- what is written of a value that is there
+-- what is written of a value: nothing if there is none
 abbrev pub some_written : {X : Type 0} → Format X → Option X → List ℕ
 some_written format None = []
 some_written format (Some x) = format.written x
 
--- the format has it
+-- there is a value, and the format has it
 abbrev pub some_has : {X : Type 0} → Format X → Option X → Bool
 some_has format None = false
 some_has format (Some x) = format.has x

@@ -1,4 +1,4 @@
--- The parts of which the body of a slot consists, each with its format (own).
+-- The parts of the body of a slot, each with its format (own).
 use Rattle.std.specs.Prelude.{◌≡◌, ℕ, ◌+◌, ◌*◌, ◌/◌, ◌%◌, ◌-◌, ◌^◌, ◌≤◌, drop, Bool, true, false, not, ◌&&◌, ◌==◌, List, [], ◌∷◌, ◌++◌, map, length, nat_lt, Option, Some, None, option_and_then, if◌then◌else◌}
 use Rattle.std.specs.Prelude.{is_none}
 use Rattle.std.specs.Int.{w8, w16, w32, w64}
@@ -64,7 +64,7 @@ abbrev pub last_code : Option ℕ → ℕ
 last_code None = 2 ^ 64 - 1
 last_code (Some last) = last
 
--- it is none, or before the end of time
+-- there is no last moment, or one before the end of time
 abbrev pub last_has : Option ℕ → Bool
 last_has None = true
 last_has (Some last) = nat_lt last end_of_time
@@ -98,7 +98,7 @@ abbrev pub open_code : Option ℕ → ℕ × ℕ
 open_code None = (0, 0)
 open_code (Some month) = (year_of month, month_of_year month)
 
--- it is none, or a month
+-- there is no first open month, or one that is a month
 abbrev pub open_has : Option ℕ → Bool
 open_has None = true
 open_has (Some month) = nat_lt month months
@@ -132,20 +132,20 @@ tariff_format = coded (pair month_format (pair (exactly 6 (format field.Tiers)) 
 
 -- ---- stacks
 
--- what stands of each version: its id, whether it is a marker, when it was made and when it ceased to be current
+-- the head of a version: its id, whether it is a marker, when it was made and when it ceased to be current
 unfoldable pub version_head : Format (VersionId × (Bool × (ℕ × ℕ)))
 version_head = pair (format field.Id) (pair flag_format (pair moment_format moment_format))
 
--- and of an object: its size, its class, when it entered it, and its tags
+-- the fields of an object: its size, its class, when it entered the class, and its tags
 unfoldable pub object_format : Format (ℕ × (Class × (ℕ × List Tag)))
 object_format = pair (format field.Size) (pair (format field.Rank) (pair moment_format (format field.Tags)))
 
--- a marker has no more than its head
+-- what follows the head: nothing for a marker, the fields for an object
 abbrev pub object_or_none : Bool → Format (Option (ℕ × (Class × (ℕ × List Tag))))
 object_or_none true = as_none
 object_or_none false = as_some object_format
 
--- the head of a version, and what stands of an object
+-- the head of a version, and the fields of an object
 abbrev pub VersionParts : Type 0
 VersionParts = (VersionId × (Bool × (ℕ × ℕ))) × Option (ℕ × (Class × (ℕ × List Tag)))
 
@@ -154,12 +154,12 @@ abbrev pub is_marker : Kind → Bool
 is_marker (Object size class tags entered) = false
 is_marker Marker = true
 
--- what stands of an object, and nothing of a marker
+-- the fields of an object; none for a marker
 abbrev pub object_of : Kind → Option (ℕ × (Class × (ℕ × List Tag)))
 object_of (Object size class tags entered) = Some (size, (class, (entered, tags)))
 object_of Marker = None
 
--- the version of these parts
+-- the version with these parts; none if the fields do not fit the marker flag
 abbrev pub version_value : VersionParts → Option Version
 version_value ((id, (false, (created, ceased))), Some (size, (class, (entered, tags)))) =
     Some (record { id = id; kind = Object size class tags entered; created = created; ceased = ceased })
@@ -205,7 +205,7 @@ upload_parts_format = list four part_format such_that keys_rise nat_cmp
 abbrev pub UploadFields : Type 0
 UploadFields = ℕ × (List ℕ × (Class × (List Tag × (ℕ × (ℕ × List (ℕ × Part))))))
 
--- what stands of an upload: its number, key, class and tags, when it started and changed last, and its parts
+-- what is written of an upload: its number, key, class and tags, when it started and changed last, and its parts
 unfoldable pub fields_format : Format UploadFields
 fields_format = pair eight (pair (format field.Key) (pair (format field.Rank) (pair (format field.Tags)
     (pair moment_format (pair moment_format upload_parts_format)))))
@@ -239,7 +239,7 @@ abbrev pub triples : List ℕ → List ℕ → List ℕ → List Triple
 triples (a ∷ as') (b ∷ bs) (c ∷ cs) = (a, (b, c)) ∷ triples as' bs cs
 triples as' bs cs = []
 
--- there is a number of each kind for each class
+-- each of the three lists has six numbers, one for each class
 abbrev pub are_six : MonthSums → Bool
 are_six sums = (length sums.ended == 6) && (length sums.early == 6) && (length sums.moves == 6)
 
@@ -281,17 +281,17 @@ versioning_value n =
 abbrev pub versionings : Code ℕ Versioning
 versionings = record { code = versioning_code; has = λ v. true; value = versioning_value }
 
--- a configuration by its text behind its length; a length of 0 for none
+-- a configuration as its text after its length; a length of 0 if there is none
 abbrev pub rules_written : Option Configuration → List ℕ
 rules_written None = four.written 0
 rules_written (Some rules) = (format field.Rules).written rules
 
--- the text of a configuration is not empty
+-- there is no configuration, or one that can be written and whose text is not empty
 abbrev pub rules_has : Option Configuration → Bool
 rules_has None = true
 rules_has (Some rules) = (format field.Rules).has rules && not (length (printed rules) == 0)
 
--- the configuration at the front of the bytes, or none
+-- the configuration at the front of the bytes, or that there is none if the length is 0
 abbrev pub rules_front : List ℕ → Option (Option Configuration × List ℕ)
 rules_front bytes = four.front bytes >>= λ n.
     if n.0 == 0 then Some (None, n.1) else (format field.Rules).front bytes >>= λ r. Some (Some r.0, r.1)
@@ -300,8 +300,8 @@ rules_front bytes = four.front bytes >>= λ n.
 unfoldable pub rules_format : Format (Option Configuration)
 rules_format = record { written = rules_written; has = rules_has; front = rules_front }
 
--- what stands of each bucket before the stacks of all: its name, its versioning, since when it has its rules, these,
--- and the numbers of its next version and its next upload
+-- what is written of a bucket before the lists of all: its name, its versioning, since when it has its rules, the
+-- rules, and the numbers of its next version and its next upload
 abbrev pub Head : Type 0
 Head = List ℕ × (Versioning × (ℕ × (Option Configuration × (ℕ × ℕ))))
 
@@ -317,7 +317,7 @@ abbrev pub is_kept_command : Command → Bool
 is_kept_command command =
     takes_token command && are_values (fields_of (parts_of command).kind) (parts_of command).values
 
--- the bytes are 8 of a moment, and the text of the command
+-- the bytes are the 8 bytes of a moment, and the text of the command
 pub record HasText (command : Command) (bytes : List ℕ) : Type 0 where
   pub moment : 8 ≤ length bytes
   pub text : drop 8 bytes ≡ command_spelling None command
@@ -328,7 +328,7 @@ if_spelled text entry =
     if is_none entry.token && is_kept_command entry.command && bytes_eq text (command_spelling None entry.command)
     then Some entry.command else None
 
--- commands by their texts: what stands in an entry without a token behind its moment
+-- commands by their texts: the bytes after the moment in an entry without a token
 abbrev pub command_texts : Code (List ℕ) Command
 command_texts = record {
   code = command_spelling None;
@@ -336,11 +336,11 @@ command_texts = record {
   value = λ text. option_and_then (if_spelled text) (result_ok (entry_of (moment_format.written 0 ++ text)));
 }
 
--- a command behind the length of its text
+-- a command's text after its length
 unfoldable pub command_format : Format Command
 command_format = coded (counted_text four) command_texts
 
--- the fields of what is kept: its token, the moment, whether the reply tells of a marker, the number that it tells of,
+-- the fields of a kept reply: its token, the moment, whether the reply reports a marker, the number that it reports,
 -- and the command
 abbrev pub KeptFields : Type 0
 KeptFields = List ℕ × (ℕ × (Bool × (ℕ × Command)))
@@ -349,7 +349,7 @@ KeptFields = List ℕ × (ℕ × (Bool × (ℕ × Command)))
 abbrev pub kept_fields : Kept → KeptFields
 kept_fields kept = (kept.token, (kept.moment, (kept.marker, (kept.told, kept.command))))
 
--- what is kept with these fields
+-- the kept reply with these fields
 abbrev pub kept_with : KeptFields → Kept
 kept_with (token, (moment, (marker, (told, command)))) =
     record { token = token; moment = moment; marker = marker; told = told; command = command }

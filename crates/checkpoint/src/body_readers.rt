@@ -17,7 +17,7 @@ use office_snapshot::{BucketPart, Snapshot};
 use std::alloc::Global;
 use tariff::Tariff;
 
-// What is one for the office.
+// What the office has once.
 #[derive(Drop)]
 struct Front {
     last: Option<Moment>,
@@ -34,7 +34,7 @@ struct Lists {
     sums: Vec<Sums>,
 }
 
-// The tariffs behind their number in one byte.
+// The tariffs after their number in one byte.
 fn tariffs_in(alloc: Global, bytes: &[u8]) -> Result<Option<(Vec<Tariff>, &[u8])>, NoMemory>
     ensures { Finds (λ x. (x.0.items, x.1.now)) result ((list (number w8) tariff_format).front bytes.now) }
 {
@@ -71,7 +71,7 @@ fn front_in(alloc: Global, bytes: &[u8]) -> Result<Option<(Front, &[u8])>, NoMem
     Ok(Some((front, rest)))
 }
 
-// The lists of so many buckets.
+// The lists of this many buckets.
 #[tactic(auto, unfolding(crate::specs::Bodies::lists_format))]
 fn lists_in(alloc: Global, count: usize, bytes: &[u8]) -> Result<Option<(Lists, &[u8])>, NoMemory>
     ensures { Finds (λ x. ((x.0.stacks.items, (x.0.uploads.items, x.0.sums.items)), x.1.now))
@@ -154,7 +154,7 @@ fn joined(
     Ok(Some(parts))
 }
 
-// The snapshot at the front of the bytes, and the bytes behind it.
+// The snapshot at the front of the bytes, and the bytes after it.
 #[tactic(auto, unfolding(crate::specs::Bodies::body_format, crate::specs::Bodies::parts_format, crate::specs::Bodies::buckets_format))]
 pub(crate) fn snapshot_in(
     alloc: Global,

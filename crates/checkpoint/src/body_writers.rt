@@ -20,7 +20,7 @@ use rules_core::RuleSet;
 use stacks::Versioning;
 use std::alloc::{AllocError, Global};
 
-// What is one for the office.
+// What the office has once.
 #[tactic(auto, unfolding(crate::specs::Bodies::front_format))]
 fn put_front(out: &mut Vec<u8>, snapshot: &Snapshot) -> Result<(), AllocError>
     ensures bytes { OnOk result (out.new.items ≡ out.old.items ++ front_format.written
@@ -59,7 +59,7 @@ fn put_rules_or_none(out: &mut Vec<u8>, rules: &Option<RuleSet>) -> Result<(), A
     }
 }
 
-// What stands of a bucket before the stacks of all.
+// What is written of a bucket before the lists of all.
 #[tactic(auto, unfolding(crate::specs::Parts::head_format))]
 fn put_head(out: &mut Vec<u8>, part: &BucketPart) -> Result<(), AllocError>
     ensures bytes { OnOk result (out.new.items ≡ out.old.items ++ head_format.written (head_of part.now)) }

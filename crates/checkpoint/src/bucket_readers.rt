@@ -1,4 +1,4 @@
-// Reads what stands of each bucket: its head, its stacks, its uploads, and its sums.
+// Reads what is written of each bucket: its head, its stacks, its uploads, and its sums.
 ghost use Rattle.std.specs.Prelude.{◌≡◌, option_map};
 ghost use Rattle.std.specs.Int.{w8};
 ghost use Rattle.entry_codec.specs.Fields as field;
@@ -23,7 +23,7 @@ use std::collections::BTreeMap;
 use std::marker::Model;
 use uploads::Upload;
 
-// What stands of a bucket before the stacks of all.
+// What is written of a bucket before the lists of all.
 #[derive(Drop)]
 pub(crate) struct BucketHead {
     pub(crate) name: BucketName,
@@ -99,7 +99,7 @@ fn versioning_in(bytes: &[u8]) -> Option<(Versioning, &[u8])>
     }
 }
 
-// A configuration behind the length of its text.
+// A configuration after the length of its text.
 #[tactic(auto, unfolding(entry_codec::specs::Fields::format))]
 fn some_rules_in(alloc: Global, bytes: &[u8]) -> Result<Option<(RuleSet, &[u8])>, NoMemory>
     ensures { Finds (λ x. (x.0, x.1.now)) result ((format field.Rules).front bytes.now) }

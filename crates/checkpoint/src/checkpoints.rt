@@ -53,9 +53,9 @@ impl Body for Checkpoint {
     }
 }
 
-/// Loads the checkpoint with the greatest position, and that position: the place in the journal from which the entries
-/// are read on. If both slots have the same position, the first one is loaded; `None` if neither slot has a checkpoint
-/// from which an office is restored. Nothing is written or synced.
+/// Loads the checkpoint with the greatest position, and that position: the place in the journal from which replay goes
+/// on. If both slots have the same position, the first one is loaded; `None` if neither slot has a checkpoint from
+/// which an office can be restored. Nothing is written or synced.
 ///
 /// Cost: time and memory to read one body, and a second one if the first does not decode.
 ///
@@ -78,9 +78,9 @@ pub fn load<D: Disk>(alloc: Global, disk: &mut D) -> Result<Option<(Snapshot, u6
     }
 }
 
-/// Saves a snapshot, each of whose kept commands may carry a token, with the place in the journal up to which it tells,
-/// in the slot that `load` would not return. After a crash at any moment the slot that `load` returned is still there.
-/// `load` returns it later only if an office is restored from it.
+/// Saves a snapshot in the slot that `load` would not return, with the place in the journal up to which it records what
+/// happened. Each kept command may carry a token. After a crash at any moment the slot that `load` returned is still
+/// there. `load` returns the new one later only if an office can be restored from it.
 ///
 /// Cost: memory for the body, then that of `load`, at most five writes and five syncs. No memory is taken once the disk
 /// was written.

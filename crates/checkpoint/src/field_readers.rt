@@ -1,5 +1,5 @@
-// Reads fields. A reader takes its value from the front of the bytes, and gives the bytes behind it; it gives None if
-// no such value is there.
+// Reads fields. A reader takes its value from the front of the bytes, and returns it with the bytes after it; it
+// returns `None` if no such value is there.
 ghost use Rattle.std.specs.Prelude.{◌≡◌, option_map};
 ghost use Rattle.entry_codec.specs.Fields as field;
 ghost use Rattle.entry_codec.specs.Fields.{format, moment_format, token_format};

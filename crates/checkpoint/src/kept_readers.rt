@@ -23,7 +23,7 @@ fn does_take_token(command: &Command) -> bool
     }
 }
 
-// The entry that has this text behind moment 0.
+// The bytes of moment 0, and this text after them.
 #[tactic(auto, unfolding(entry_codec::specs::Fields::moment_format))]
 fn entry_with(alloc: Global, text: &[u8]) -> Result<Vec<u8>, AllocError>
     ensures { IfOk result (λ entry. entry.items ≡ moment_format.written 0 ++ text.now) }

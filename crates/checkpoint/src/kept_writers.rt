@@ -23,7 +23,7 @@ fn first_moment() -> Moment
     }
 }
 
-// The entry of a command at the first moment, without a token: its text stands behind the 8 bytes of the moment.
+// The entry of a command at moment 0, without a token: its text follows the 8 bytes of the moment.
 #[tactic(auto, using(crate::proofs::CommandTexts::has_text, crate::proofs::CommandTexts::is_short, crate::proofs::CommandTexts::is_kept))]
 fn entry_of(alloc: Global, command: &Command) -> Result<Vec<u8>, NoMemory>
     requires { takes_token command.now ≡ true }
@@ -34,7 +34,7 @@ fn entry_of(alloc: Global, command: &Command) -> Result<Vec<u8>, NoMemory>
     encode_command(alloc, first_moment(), None, command)
 }
 
-// What stands behind the moment of an entry, behind its length.
+// The bytes that follow the moment of an entry, after their length.
 #[tactic(auto, using(crate::proofs::CommandTexts::take_rest), unfolding(crate::specs::Parts::four))]
 fn put_text(out: &mut Vec<u8>, entry: &[u8]) -> Result<(), AllocError>
     requires moment { 8 ≤ length entry.now }
@@ -46,7 +46,7 @@ fn put_text(out: &mut Vec<u8>, entry: &[u8]) -> Result<(), AllocError>
     put_long_text(out, &entry[8..])
 }
 
-// A command behind the length of its text, which is what stands in an entry without a token behind the moment.
+// A command's text after its length. The text is what follows the moment in an entry without a token.
 #[tactic(auto, unfolding(crate::specs::Parts::command_format))]
 fn put_command(out: &mut Vec<u8>, command: &Command) -> Result<(), AllocError>
     requires { takes_token command.now ≡ true }

@@ -3,8 +3,8 @@ ghost use Rattle.std.specs.Prelude.{◌≡◌, ◌<◌, ℕ, List, [], Some, sli
 ghost use Rattle.office_snapshot.specs.Snapshots.{SnapshotRecord};
 ghost use Rattle.checkpoint.specs.Bodies.{body_format, Spells};
 
-/// States that a snapshot is read again from its bytes, that nothing else is read as a snapshot, and that no bytes
-/// spell two snapshots.
+/// States that a snapshot is read back from its bytes, that nothing else is read as a snapshot, and that no bytes spell
+/// two snapshots.
 pub fn each_body_reads_back()
     ensures again { (snapshot : SnapshotRecord) → body_format.has snapshot ≡ true
         → body_format.front (body_format.written snapshot) ≡ Some (snapshot, []) }

@@ -31,7 +31,7 @@ fn put_tariff(out: &mut Vec<u8>, tariff: &Tariff) -> Result<(), AllocError>
     put_prices(out, &tariff.transition)
 }
 
-// The tariffs behind their number in one byte.
+// The tariffs after their number in one byte.
 pub(crate) fn put_tariffs(out: &mut Vec<u8>, tariffs: &[Tariff]) -> Result<(), AllocError>
     ensures bytes { OnOk result
         (out.new.items ≡ out.old.items ++ (list (number w8) tariff_format).written tariffs.now) }

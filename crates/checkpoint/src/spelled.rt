@@ -10,15 +10,16 @@ use std::alloc::Global;
 
 // A value with a format.
 pub(crate) trait Spelled: Drop {
-    // How the value stands in bytes.
+    // How the value is written in bytes.
     ghost format: { Format Self };
 
-    // Reads the value at the front of the bytes, and gives the bytes behind it; None if no such value is there.
+    // Reads the value at the front of the bytes, and returns it with the bytes after it; `None` if no such value is
+    // there.
     fn read(alloc: Global, bytes: &[u8]) -> Result<Option<(Self, &[u8])>, NoMemory>
         ensures { Finds (λ x. (x.0, x.1.now)) result (format.front bytes.now) };
 }
 
-// So many values, one behind the other.
+// This many values, one after the other.
 pub(crate) fn items_in<T: Spelled>(
     alloc: Global,
     count: usize,
@@ -40,7 +41,7 @@ pub(crate) fn items_in<T: Spelled>(
     Ok(Some((items, rest)))
 }
 
-// The values behind their number.
+// The values after their number.
 #[tactic(auto, unfolding(crate::specs::Parts::four))]
 pub(crate) fn list_in<T: Spelled>(
     alloc: Global,

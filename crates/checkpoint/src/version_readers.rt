@@ -13,7 +13,7 @@ use office_base::{Key, NoMemory, Size, Tags, VersionId};
 use stacks::{Kind, Stack, Version};
 use std::alloc::Global;
 
-// What stands of each version.
+// What is written of each version.
 #[derive(Drop)]
 struct Head {
     id: VersionId,
@@ -22,7 +22,7 @@ struct Head {
     ceased: Moment,
 }
 
-// What stands of an object besides.
+// The fields of an object.
 #[derive(Drop)]
 struct Object {
     size: Size,
