@@ -20,7 +20,7 @@ module _ {K X : Type 0} {cmp : K → K → Ordering} (ko : IsKeyOrder cmp) where
   all_below (e ∷ es) x rest rises =
       ((every_parts (λ (other : K × X). IsTrue (is_lt (cmp e.0 other.0))) es (x ∷ rest) rises.0).1.0, all_below es x rest rises.1)
 
-  -- a key behind all others comes to the end
+  -- a key after all others comes to the end
   pub last_inserted : (es : List (K × X)) (key : K) (value : X) → IsBelow key es → insert_entry cmp es key value ≡ es ++ (key, value) ∷ []
   last_inserted [] key value below = refl
   last_inserted (e ∷ es) key value below =
@@ -29,7 +29,7 @@ module _ {K X : Type 0} {cmp : K → K → Ordering} (ko : IsKeyOrder cmp) where
       ap (λ (o : Ordering). match_ordering o ((key, value) ∷ e ∷ es) ((e.0, value) ∷ es) (e ∷ insert_entry cmp es key value)) above
       ∙ ap (λ (l : List (K × X)). e ∷ l) more
 
-  -- the copies so far, with those that are left behind them, are all
+  -- the copies so far, with those that are left after them, are all
   pub copied_more : (all copies new left : List (K × X)) (x : K × X) (rest : List (K × X)) → Rises cmp all → copies ++ left ≡ all → left ≡ x ∷ rest
       → new ≡ insert_entry cmp copies x.0 x.1 → new ++ rest ≡ all
   copied_more all copies new left x rest rises so_far is written =

@@ -1,4 +1,4 @@
--- What a delete does, by the versioning of its bucket, and what a version is refused for that is not there.
+-- What a delete does, by the versioning of its bucket, and the refusal of a version that is not there.
 use Rattle.std.proofs.Common.{◌≡◌, ℕ, List, [], ◌∷◌, refl, sym, subst, Bool, true, false, cond}
 use Rattle.std.specs.Prelude.{Option, Some, None, Ok, Err, IsSome, is_some, unwrap_or}
 use Rattle.std.specs.Option.{ok_or}
@@ -22,7 +22,7 @@ use Rattle.office_types.specs.declared.refusal.Refusal.TheVariants.{NoSuchKey, N
 use Rattle.office_laws.proofs.Buckets.{stack_orderly}
 use Rattle.bucket_account.specs.Booking.{missing, missing_from}
 
--- ---- without versioning there is the null version alone
+-- ---- without versioning there is only the null version
 
 one_null : (versions : List Version) → IsOneNullObject versions → IsSome (version_at Null versions)
 one_null [] is = absurd is
@@ -88,7 +88,7 @@ module _ (t : ℕ) (key : List ℕ) (id : VersionId) (account : Account) where
   abbrev gone : Version → Change
   gone version = Ok (remove_version key id t account, VersionDeleted id)
 
-  -- it goes, where it is there
+  -- it goes, if it is there
   pub goes : missing key id account.bucket.stacks ≡ None → delete_version t key id account ≡ Ok (remove_version key id t account, VersionDeleted id)
   goes is = by (at_name key account.bucket.stacks) is where
     found_by : (o : Option Version) → cond (is_some o) None (Some NoSuchVersion) ≡ None → (of_stack (or_no_such o) >>= gone) ≡ Ok (remove_version key id t account, VersionDeleted id)

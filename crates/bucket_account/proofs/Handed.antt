@@ -13,7 +13,7 @@ pub err_of : {T : Type 0} (r : Result T Refusal) (refusal : Refusal) → IsErrAn
 err_of (Ok x) refusal same = absurd same
 err_of (Err other) refusal same = ap (λ (e : Refusal). Err e) (sym same)
 
--- what follows where the call was accepted, and where it was refused
+-- what follows if the call was accepted, and if it was refused
 pub ok_then : {T E : Type 0} (result : Result T E) (P Q : Type 0) → (P → Q) → OnOk result P → OnOk result Q
 ok_then (Ok x) P Q f holds = f holds
 ok_then (Err e) P Q f holds = holds

@@ -18,7 +18,7 @@ use Rattle.bucket_account.proofs.Ending.{Ends}
 use Rattle.bucket_account.proofs.Gone.{put_by}
 use Rattle.bucket_account.proofs.Parting.{item_open, item_ended, parts_small}
 
--- ---- where no stay is open none ends
+-- ---- if no stay is open none ends
 
 module _ (key : List ℕ) (item : Item) (at : ℕ) where
   pub none_ended : (books : Books) → open_of key item books.stays ≡ [] → with_end key item at books ≡ books

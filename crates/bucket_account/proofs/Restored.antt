@@ -148,7 +148,7 @@ module _ (account : Account) (last : ℕ) (orderly : IsOrderlyBucket last accoun
   abbrev now : List Booked
   now = open_stays account.bucket
 
-  -- its book without the open stays, and with them behind all others
+  -- its book without the open stays, and with them after all others
   abbrev past_book : Book
   past_book = record { stays = map stay_in past; early = account.books.early; moves = account.books.moves }
 

@@ -44,7 +44,7 @@ short_id configuration rules place rule is same less found =
     short_after [] rules place rule
     (subst (λ (l : List Rule). first_flaw_after [] l ≡ None) (sym same) (after_count (nat_lt 1_000 (length configuration.rules)) _ is.flawless)) less found
 
--- behind the last rule there is none
+-- after the last rule there is none
 pub no_id : (kept : Option Configuration) (configuration : Configuration) (rules : List Rule) (at place : ℕ)
     → kept ≡ Some configuration → rules ≡ configuration.rules → at ≡ place - 1 → length rules ≤ at
     → [] ≡ rule_id kept place

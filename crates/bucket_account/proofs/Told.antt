@@ -1,4 +1,4 @@
--- What is known of a change that was done as it is told.
+-- What is known of a change that was done as the plain office does it.
 use Rattle.std.proofs.Common.{List, sym, subst}
 use Rattle.std.specs.Prelude.{Ok, Err}
 use Rattle.due_core.specs.Buckets.{BucketRecord}

@@ -1,4 +1,4 @@
--- What stands under a key of a bucket's stacks, and what a version that goes from there takes away.
+-- What is under a key of a bucket's stacks, and what a version that goes from there takes away.
 use Rattle.std.proofs.Common.{◌≡◌, ℕ, ◌+◌, ◌≤◌, ◌<◌, List, [], ◌∷◌, length, refl, subst, Bool, true, false, cond, arith}
 use Rattle.std.specs.Prelude.{Option, Some, None, is_some, unwrap_or, option_map, sum_by, ◌==◌}
 use Rattle.std.specs.List.{list_all, filter}

@@ -1,4 +1,4 @@
--- What a command does to its bucket in memory, against what the plain office tells of it.
+-- What a command does to its bucket in memory, compared with what the plain office does.
 use Rattle.std.specs.Prelude.{◌≡◌, ◌⊎◌, ℕ, List, [], ◌∷◌, None, Result, Ok, Err, if◌then◌else◌}
 use Rattle.due_core.specs.Buckets.{BucketRecord}
 use Rattle.plain_office.specs.Office.{Account}
@@ -16,7 +16,7 @@ use Rattle.bucket_account.specs.declared.counts.Counts.{Counts}
 use Rattle.bucket_account.specs.Counting.{AccountRecord, HaveMoved, first_over, IsFullOf}
 use Rattle.bucket_account.specs.Standing.{StandsForAccount}
 
--- what the plain office tells of a command on the account of its bucket, one equation for each
+-- what the plain office does for a command on the account of its bucket, one equation for each
 abbrev pub change_of : ℕ → Command → Account → Change
 change_of t (command.SetVersioning name enabled) account = set_versioning t enabled account
 change_of t (command.SetRules name rules) account = set_rules t rules account
@@ -60,20 +60,22 @@ IsOnBucket bucket (command.Abort name upload) = bucket ≡ name
 IsOnBucket bucket (command.Act name) = bucket ≡ name
 IsOnBucket bucket other = ⊥
 
--- what a change has to know of its account: its records are orderly at the moment, and its stays open as they ask
+-- what a change needs of its account: its records are orderly at the moment, and its open stays are those that they ask
+-- for
 pub record IsOrderlyAccount (t : ℕ) (account : Account) : Type 0 where
   pub bucket : IsOrderlyBucket t account.bucket
   pub stays : HasOpenStays account
 
--- refused for a count: one of these would be above its limit afterwards
+-- refused for a count: one of these would be above its limit after the command
 pub record IsFullAfter (whats : List What) (before after : BucketRecord) (counts : Counts) (refusal : Refusal)
     : Type 0 where
   pub moved : Counts
   pub follow : HaveMoved before after counts moved
   pub full : IsFullOf whats moved refusal
 
--- What is told is done: the bucket stands for the account told and the counts have moved with it, within their limits.
--- Or it is refused as told, for a count, or for want of memory, and the bucket stands for the account before.
+-- The plain office accepts: the reply is its reply, the bucket stands for its account, and the counts have moved with
+-- it, within their limits. Or the command is refused as there, for a count, or out of memory, and the bucket stands for
+-- the account before.
 abbrev pub DoesTold : List What → Change → Account → Counts → AccountRecord → Result Done Refusal → Type 0
 DoesTold whats (Ok told) before counts after (Ok done) =
     (done.reply ≡ told.1) × StandsForAccount after told.0 × HaveMoved before.bucket told.0.bucket counts done.counts

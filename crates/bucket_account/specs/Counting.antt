@@ -20,7 +20,7 @@ pub record AccountRecord : Type 0 where
 abbrev pub account_of : BucketRecord → Totals → AccountRecord
 account_of bucket meters = record { bucket = bucket; meters = meters }
 
--- how much is counted of a kind
+-- how much there is of a kind, by the counts
 abbrev pub amount : What → Counts → ℕ
 amount Buckets counts = counts.buckets
 amount Versions counts = counts.versions
@@ -30,7 +30,7 @@ amount Names counts = counts.names
 amount Rules counts = counts.rules
 amount Tariffs counts = counts.tariffs
 
--- how much of it is one bucket's
+-- how much of a kind one bucket has
 abbrev pub in_bucket : What → BucketRecord → ℕ
 in_bucket Buckets bucket = 1
 in_bucket Versions bucket = version_count bucket
@@ -40,7 +40,7 @@ in_bucket Names bucket = name_bytes bucket
 in_bucket Rules bucket = rules_bytes bucket.rules
 in_bucket Tariffs bucket = 0
 
--- the counts include this bucket, and are not above twice their limits
+-- the counts include this bucket, and are at most twice their limits
 abbrev pub AreCountsOver : BucketRecord → Counts → Type 0
 AreCountsOver bucket counts =
     (what : What) → (in_bucket what bucket ≤ amount what counts) × (amount what counts ≤ 2 * limit_of what)
@@ -50,7 +50,7 @@ abbrev pub HaveMoved : BucketRecord → BucketRecord → Counts → Counts → T
 HaveMoved before after counts moved =
     (what : What) → amount what moved + in_bucket what before ≡ amount what counts + in_bucket what after
 
--- the first of these that is above its limit
+-- the first of these that is above its limit, if any is
 abbrev pub first_over : List What → Counts → Option What
 first_over whats counts = find (λ what. nat_lt (limit_of what) (amount what counts)) whats
 
@@ -59,14 +59,15 @@ abbrev pub IsFullOf : List What → Counts → Refusal → Type 0
 IsFullOf whats counts refusal =
     (what : What) × (first_over whats counts ≡ Some what) × (refusal ≡ Full what (limit_of what))
 
--- after so many accepted commands: a command books at most three times in a bucket's meters and gives at most one
--- number of each kind, and an office that is restored begins within 2 ^ 20 and 2 ^ 62 (own)
+-- what an account has at most after this many accepted commands: a command books at most three times in a bucket's
+-- meters and gives at most one number of each kind; a restored office begins with at most 2^20 bookings and numbers up
+-- to 2^62 (own)
 pub record IsWithinBy (accepted : ℕ) (account : AccountRecord) : Type 0 where
   pub booked : account.meters.booked ≤ 2 ^ 20 + 3 * accepted
   pub next_version : account.bucket.next_version ≤ 2 ^ 62 + accepted
   pub next_upload : account.bucket.next_upload ≤ 2 ^ 62 + accepted
 
--- at most so many bookings and numbers of each kind were added
+-- at most this many bookings, and this many numbers of each kind, were added
 pub record HasGrownBy (bookings numbers : ℕ) (old new : AccountRecord) : Type 0 where
   pub booked : new.meters.booked ≤ old.meters.booked + bookings
   pub next_version : new.bucket.next_version ≤ old.bucket.next_version + numbers

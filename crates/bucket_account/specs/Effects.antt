@@ -1,4 +1,4 @@
--- What an effect on the versions or uploads of a bucket in memory does, against what the plain office tells of it.
+-- What an effect on the versions or uploads of a bucket in memory does, compared with what the plain office does.
 use Rattle.std.specs.Prelude.{◌≡◌, ◌⊎◌, ℕ, ◌≤◌, List, None, IfSome, Result, Ok, Err}
 use Rattle.office_base.specs.Maps.{at_number}
 use Rattle.plain_office.specs.Office.{Account}
@@ -12,15 +12,15 @@ use Rattle.bucket_account.specs.Changing.{IsFullAfter}
 use Rattle.bucket_account.specs.Counting.{AccountRecord, HaveMoved, first_over}
 use Rattle.bucket_account.specs.Standing.{StandsForAccount}
 
--- what an effect on a key's versions at a moment has to know: the records are orderly and the stays open as they ask,
--- and the key's versions changed last at no later moment
+-- what an effect on a key's versions at a moment needs: the records are orderly, the open stays are those that they ask
+-- for, and the key's versions changed last at no later moment
 pub record IsReadyAt (key : List ℕ) (at : ℕ) (account : Account) : Type 0 where
   pub last : ℕ
   pub bucket : IsOrderlyBucket last account.bucket
   pub stays : HasOpenStays account
   pub changed : (stack_at key account.bucket).changed ≤ at
 
--- and an effect on an upload
+-- what an effect on an upload needs
 pub record IsUploadReadyAt (number at : ℕ) (account : Account) : Type 0 where
   pub last : ℕ
   pub bucket : IsOrderlyBucket last account.bucket
@@ -28,7 +28,7 @@ pub record IsUploadReadyAt (number at : ℕ) (account : Account) : Type 0 where
   pub changed : IfSome (at_number number account.bucket.uploads) (λ upload. upload.changed ≤ at)
 
 -- The effect is done: the bucket stands for the account after it, and the counts have moved with it, within their
--- limits. Or it is refused for a count or for want of memory, and the bucket stands for the account before.
+-- limits. Or it is refused for a count or out of memory, and the bucket stands for the account before.
 abbrev pub DoesEffect : List What → (Account → Account) → Account → Counts → AccountRecord → Result Counts Refusal
     → Type 0
 DoesEffect whats effect before counts after (Ok moved) =

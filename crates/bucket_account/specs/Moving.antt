@@ -11,8 +11,7 @@ abbrev pub IsAnObject : Option Version → Type 0
 IsAnObject None = ⊥
 IsAnObject (Some version) = IsTrue (is_object version.kind)
 
--- the object with this id may move at the moment: its stack changed last at no later one, and it has its lines since
--- one that is not later
+-- the object with this id may move at the moment: neither its stack's last change nor its lines are later
 pub record IsMovable (id : VersionId) (at : ℕ) (stack : StackRecord) : Type 0 where
   pub there : IsAnObject (version_at id stack.versions)
   pub later : stack.changed ≤ at

@@ -19,30 +19,30 @@ use Rattle.plain_office.specs.Orderly.{stay_of_version, stay_of_part, HasOpenSta
 abbrev pub stack_stays : List ℕ × StackRecord → List Booked
 stack_stays entry = map (stay_of_version entry.0) entry.1.versions
 
--- and those that the parts of an upload do
+-- the stays that the parts of an upload ask to be open
 abbrev pub upload_stays : ℕ × UploadRecord → List Booked
 upload_stays entry = map (λ part. stay_of_part entry.0 entry.1 part.0 part.1) entry.1.parts
 
--- and all of a bucket
+-- the stays that all versions and parts of a bucket ask to be open
 abbrev pub open_stays : BucketRecord → List Booked
 open_stays bucket = flat_map stack_stays bucket.stacks ++ flat_map upload_stays bucket.uploads
 
--- the new meters stand for each book of the old ones with these stays behind all others
+-- the new meters stand for each book of the old ones with these stays added after all others
 abbrev pub AddsStays : List Booked → Totals → Totals → Type 0
 AddsStays stays old new =
     (book : Book) → AreTotalsOf old book → AreTotalsOf new (record book { stays = book.stays ++ map stay_in stays })
 
 -- ---- the account
 
--- so few versions and parts that meters of which nothing was booked have room for the stay of each, and numbers from
--- which later commands go on (own)
+-- few enough versions and parts that empty meters have room for the stay of each, and next numbers that later commands
+-- can go on from (own)
 pub record IsSmallBucket (bucket : BucketRecord) : Type 0 where
   pub versions : version_count bucket ≤ 400_000
   pub parts : part_count bucket ≤ 500_000
   pub next_version : bucket.next_version ≤ 2 ^ 62
   pub next_upload : bucket.next_upload ≤ 2 ^ 62
 
--- so much of each kind that it can be counted
+-- no more of each kind than can be counted
 pub record AreFewIn (bucket : BucketRecord) : Type 0 where
   pub parts : part_count bucket ≤ 2 * limit_of Parts
   pub names : name_bytes bucket ≤ 2 * limit_of Names

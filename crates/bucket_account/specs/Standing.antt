@@ -1,4 +1,4 @@
--- What a bucket in memory stands for: it keeps records and totals, where the plain office has lists.
+-- What a bucket in memory stands for. The plain office has lists; the bucket keeps records and totals.
 use Rattle.std.specs.Prelude.{◌≡◌, ℕ, ◌^◌}
 use Rattle.accrual.specs.Books.{Book}
 use Rattle.accrual.specs.Totals.{AreTotalsOf}
@@ -14,7 +14,7 @@ pub record StandsForAccount (records : AccountRecord) (account : Account) : Type
   pub bucket : records.bucket ≡ account.bucket
   pub meters : AreTotalsOf records.meters (book_of account.books)
 
--- the copy has the same records; its meters stand for each book for which the others stand, after as many bookings
+-- the copy has the same records; its meters stand for each book that the others stand for, after as many bookings
 pub record IsCopyOf (copy records : AccountRecord) : Type 0 where
   pub bucket : copy.bucket ≡ records.bucket
   pub meters : (book : Book) → AreTotalsOf records.meters book → AreTotalsOf copy.meters book

@@ -1,4 +1,4 @@
--- What a command changes of a bucket's records, as far as the lifecycle rules read them.
+-- What a command changes in a bucket's records, as far as the lifecycle rules read them.
 use Rattle.std.specs.Prelude.{ℕ, List}
 use Rattle.due_core.specs.Buckets.{BucketRecord}
 use Rattle.due_core.specs.declared.action.Target.{Target}
@@ -13,7 +13,7 @@ pub data Touch : Type 0 where
   of_upload : ℕ → Touch
   of_all : Touch
 
--- what a command on a bucket changes, whose next upload has this number
+-- what a command changes in a bucket whose next upload has this number
 abbrev pub touched : ℕ → Command → Touch
 touched next (command.Put name key size class tags) = of_key key
 touched next (command.Delete name key) = of_key key
@@ -29,7 +29,7 @@ abbrev pub touched_at : List ℕ → Target → Touch
 touched_at key (target.Version id) = of_key key
 touched_at key (target.Upload number) = of_upload number
 
--- the index stands for the bucket, but for what was touched
+-- the index stands for the bucket, except for what was touched
 abbrev pub StandsBut : Touch → IndexRecord → BucketRecord → Type 0
 StandsBut (of_key key) index bucket = StandsButKey index bucket key
 StandsBut (of_upload number) index bucket = StandsButUpload index bucket number

@@ -47,7 +47,7 @@ counts_without upload counts = record counts {
   names = counts.names - (length upload.key + tag_bytes upload.tags);
 }
 
--- and once one has started
+-- the counts once an upload with this key and these tags has started
 abbrev pub counts_started : List ℕ → List Tag → Counts → Counts
 counts_started key tags counts = record counts {
   uploads = counts.uploads + 1;
@@ -56,25 +56,26 @@ counts_started key tags counts = record counts {
 
 -- ---- a part that is put
 
--- the open stay of the part with this number is the one that its record asks for; where there is no part there is none
+-- the part with this number has exactly the open stay that its record asks for; if there is no part, there is no open
+-- stay
 abbrev pub HasPartStay : List ℕ → Item → Class → Option Part → Books → Type 0
 HasPartStay key item class None books = filter (is_open_stay key item) books.stays ≡ []
 HasPartStay key item class (Some part) books =
     filter (is_open_stay key item) books.stays
     ≡ (record { key = key; item = item }, open_stay (part_line class part.size) part.put) ∷ []
 
--- it may end at the moment, and is small enough to be billed
+-- if there is a part, its stay may end at the moment, and it is small enough to be billed
 abbrev pub MayEndAt : ℕ → Totals → Option Part → Type 0
 MayEndAt at meters None = Unit {0}
 MayEndAt at meters (Some part) =
     (part.put ≤ at) × HasRowsFrom part.put at meters × (part.size ≤ largest_size)
 
--- since when it is stored, or the moment where there is none
+-- since when the part is stored; the moment if there is none
 abbrev pub put_since : ℕ → Option Part → ℕ
 put_since at None = at
 put_since at (Some part) = part.put
 
--- the books once a part of this size came in its place
+-- the books once a part of this size came in the place of the one with this number
 abbrev pub books_with_part : ℕ → UploadRecord → ℕ → ℕ → ℕ → Books → Books
 books_with_part number upload place size at books =
     with_stay upload.key (of_part number place) (part_line upload.class size) at
@@ -95,7 +96,7 @@ IsPartRefused place size at upload counts refusal =
 
 -- ---- an upload that is completed
 
--- the object that its parts make, at the moment
+-- the object that its parts make, as it comes at the moment with this number
 abbrev pub whole_of : UploadRecord → Versioning → ℕ → ℕ → Incoming
 whole_of upload versioning number at = record {
   versioning = versioning;

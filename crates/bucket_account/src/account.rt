@@ -47,7 +47,7 @@ pub struct Account {
     versions: u64,
     // The bytes of its printed configuration.
     text_bytes: u64,
-    // The actions that come next; none where memory for them was wanting.
+    // The actions that come next; `None` if memory for them ran out.
     index: Option<DueIndex>,
 }
 
@@ -65,7 +65,7 @@ impl Model for Account {
         × IfSome a.index (λ index. StandsFor index a.bucket) };
 }
 
-// Moves a bucket's own share as the count moved, of which it is one.
+// Moves a bucket's own count by as much as the total count moved. The total includes the bucket's.
 fn moved(own: u64, before: u64, after: u64) -> u64
     requires some { before ≤ own + after }
     requires few { own + after < 2 ^ 64 }
@@ -75,7 +75,7 @@ fn moved(own: u64, before: u64, after: u64) -> u64
 }
 
 impl Account {
-    /// Gives the account of a bucket that is made at this moment. Takes no memory.
+    /// Returns the account of a bucket that is made at this moment. Takes no memory.
     pub fn new(alloc: Global, at: Moment) -> Account
         ensures stands { StandsForAccount result (new_account at) }
         ensures room { (accepted : ℕ) → IsWithinBy accepted result }
@@ -99,9 +99,9 @@ impl Account {
         }
     }
 
-    /// Gives the account of these records, whose months have these sums without the stays that have no end yet. The stay
-    /// of each version and part is opened: an object's when it entered its class, a marker's when it was made, a part's
-    /// when it was put.
+    /// Returns the account of these records. The months have these sums, without the stays that have no end yet. The
+    /// stay of each version and part is opened: an object's when it entered its class, a marker's when it was made, a
+    /// part's when it was put.
     ///
     /// Cost: a pass over the versions and parts, one printing of the configuration, and the index is built.
     ///
@@ -185,7 +185,7 @@ impl Account {
         })
     }
 
-    /// Does a command on the bucket, and gives the counts after it and the reply.
+    /// Does a command on the bucket, and returns the counts after it and the reply.
     pub fn apply(
         &mut self,
         alloc: Global,
@@ -226,10 +226,10 @@ impl Account {
         &self.bucket
     }
 
-    /// Finds the lifecycle action that is due first at a moment; None where none is.
+    /// Finds the lifecycle action that is due first at a moment; `None` if none is due.
     ///
-    /// Cost: one reading of the index, and a copy of the action's key; a pass over all versions and uploads where there
-    /// is no index.
+    /// Cost: one reading of the index, and a copy of the action's key; a pass over all versions and uploads if there is
+    /// no index.
     ///
     /// # Errors
     ///
@@ -240,8 +240,8 @@ impl Account {
         first_of(&self.index, &self.bucket, t)
     }
 
-    /// Counts the keys and the uploads that have an eligible action; None only where memory for an index of them was
-    /// wanting. Takes no memory.
+    /// Counts the keys and the uploads that have an eligible action; `None` only if memory for an index of them ran
+    /// out. Takes no memory.
     pub fn queued(&self) -> Option<u64>
         ensures exact { IfSome result (λ entries. entries ≡ entry_count self.now.bucket) }
     {
@@ -296,7 +296,7 @@ impl Account {
         self.bucket.uploads.len() as u32
     }
 
-    /// Tells whether versioning was never enabled, is enabled or is suspended.
+    /// Reports whether versioning was never enabled, is enabled or is suspended.
     pub fn versioning(&self) -> Versioning
         ensures { result ≡ self.now.bucket.versioning }
     {

@@ -1,4 +1,4 @@
-// The first lifecycle action that is due is done.
+// Does the first lifecycle action that is due.
 ghost use Rattle.std.specs.Prelude.{◌≡◌, ◌+◌, ◌<◌, ◌≤◌, [], ℕ, Some, Ok, OnOk, OnErr, IfOk, IfSome};
 ghost use Rattle.office_base.specs.Tags.{char_count};
 ghost use Rattle.due_core.specs.Choice.{choice};
@@ -31,7 +31,7 @@ use rules_core::RuleSet;
 use stacks::Kind;
 use std::alloc::{AllocError, Global};
 
-/// Copies the id of the rule at this place, from 1; the empty text where there is none.
+/// Copies the id of the rule at this place, from 1; the empty text if there is no such rule.
 ///
 /// # Errors
 ///
@@ -50,7 +50,7 @@ pub fn rule_id(alloc: Global, rules: &Option<RuleSet>, place: u32) -> Result<Tex
     }
 }
 
-/// Gives the id of the delete marker that an action of this kind makes.
+/// Returns the id of the delete marker that an action of this kind makes.
 fn marker_made(kind: ActionKind, bucket: &Bucket) -> Option<VersionId>
     requires next { 0 < bucket.now.next_version }
     ensures { result ≡ marker_made kind bucket.now }
@@ -97,7 +97,7 @@ fn do_on_version(
     }
 }
 
-/// Does the chosen action at the moment at which it stands, and gives the counts after it.
+/// Does the chosen action at the moment at which it stands, and returns the counts after it.
 fn do_action(
     bucket: &mut Bucket,
     meters: &mut Meters,
@@ -126,7 +126,7 @@ fn do_action(
     }
 }
 
-/// Shows an action that was done by the rule with this id.
+/// Returns the reply that shows an action and the id of its rule.
 fn shown(action: Action, rule: Text, marker: Option<VersionId>) -> Reply
     ensures { result ≡ Chosen action.kind action.key action.target rule action.since marker }
 {
@@ -140,7 +140,7 @@ fn shown(action: Action, rule: Text, marker: Option<VersionId>) -> Reply
     }
 }
 
-/// Does the chosen action, and shows it.
+/// Does the chosen action, and returns the reply that shows it.
 fn act_on(
     bucket: &mut Bucket,
     meters: &mut Meters,
@@ -182,11 +182,11 @@ fn act_on(
     })
 }
 
-/// Does the first lifecycle action that is due, at the moment at which it stands; nothing where none is due.
+/// Does the first lifecycle action that is due, at the moment at which it stands; nothing if none is due.
 ///
 /// Rule: S3 User Guide, "Managing the lifecycle of objects". Own rule: it is never refused for a count.
-/// Cost: what the change takes, and a renewal of what it touches. Where there is no index it is built first, in a pass
-/// over the bucket's versions and uploads; where that takes more memory than there is, that pass makes the choice.
+/// Cost: what the change takes, and a renewal of what it touches. If there is no index, it is built first, in a pass
+/// over the bucket's versions and uploads. If memory for it runs out, such a pass makes the choice.
 ///
 /// # Errors
 ///

@@ -1,4 +1,4 @@
-// A version comes: an object, or a delete marker.
+// Adds a version: an object, or a delete marker.
 ghost use Rattle.std.specs.Prelude.{◌≡◌, ◌⊎◌, ◌+◌, ◌^◌, ◌<◌, ◌≤◌, [], ℕ, None, option_map, OnOk, OnErr, IfOk};
 ghost use Rattle.std.specs.Prelude.{IfErr};
 ghost use Rattle.office_base.specs.Maps.{bytes_cmp, at_name, with_name, Rises};
@@ -38,7 +38,7 @@ pub(crate) fn next_number(versioning: Versioning, number: u64) -> u64
     }
 }
 
-/// Gives the counts after a version came with so many bytes of a new key and of tags, within their limits.
+/// Returns the counts after a version came with these bytes of a new key and of tags, within their limits.
 fn counted(
     counts: Counts,
     key_bytes: u64,
@@ -178,7 +178,7 @@ fn put_first(
     Ok(())
 }
 
-/// Puts a version under a key of these stacks, and gives the counts after it.
+/// Puts a version under a key of these stacks, and returns the counts after it.
 ///
 /// Cost: one search of the stacks, two for a new key, and what `Stack::put` takes.
 ///
@@ -233,7 +233,7 @@ pub(crate) fn put_version(
     }
 }
 
-/// Puts an object or a delete marker on the versions of a key, and gives the counts after it.
+/// Puts an object or a delete marker on the versions of a key, and returns the counts after it.
 ///
 /// Rule: S3 User Guide, "Adding objects to versioning-enabled buckets", "Adding objects to versioning-suspended
 /// buckets", "Working with delete markers".

@@ -1,4 +1,4 @@
-// How the coming and going of versions is booked.
+// Books versions that come and go.
 ghost use Rattle.std.specs.Prelude.{◌≡◌, ◌+◌, ◌<◌, ◌≤◌, ℕ, length, OnOk, IfErr};
 ghost use Rattle.class_rules.specs.Lines.{lines_of, object_lines, own_bytes, marker_line};
 ghost use Rattle.accrual.specs.Books.{Book};
@@ -30,7 +30,7 @@ pub(crate) fn reserve(meters: &mut Meters, from: Moment, to: Moment) -> Result<(
     }
 }
 
-/// Gives the lines of an object.
+/// Returns the lines of an object.
 pub(crate) fn object_billed(class: Class, size: Size) -> Lines
     ensures lines { lines_of result ≡ object_lines class size }
     ensures class { result.class ≡ class }
@@ -47,7 +47,7 @@ fn marker_billed(key: &Key) -> Lines
     marker_lines(key.bytes().len() as u64)
 }
 
-/// Gives the lines of a version of this kind under a key.
+/// Returns the lines of a version of this kind under a key.
 pub(crate) fn kind_billed(key: &Key, kind: &Kind) -> Lines
     ensures lines { lines_of result ≡ lines_of_kind key.now kind.now }
     ensures billed { IsBilled result }
@@ -84,7 +84,7 @@ pub(crate) fn end_version(meters: &mut Meters, key: &Key, version: &Version, at:
     }
 }
 
-/// Books that a version goes, where there is one.
+/// Books that a version goes, if there is one.
 pub(crate) fn end_replaced(meters: &mut Meters, key: &Key, gone: &Option<Version>, at: Moment)
     requires later { IsSinceBy at gone.now }
     requires rows { MayHaveRows gone.now at meters.old }

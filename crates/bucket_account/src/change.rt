@@ -32,8 +32,8 @@ pub struct Done {
     pub reply: Reply,
 }
 
-/// Does a command on a bucket, and renews what it touched in the index. Where memory for the index is wanting, there is
-/// none any more, and the command is done all the same.
+/// Does a command on a bucket, and renews what it touched in the index. If memory for the index runs out, the index is
+/// dropped, and the command is still done.
 pub(crate) fn change(
     bucket: &mut Bucket,
     meters: &mut Meters,

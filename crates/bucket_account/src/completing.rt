@@ -1,4 +1,4 @@
-// An object is made of the parts of an upload.
+// Makes an object of the parts of an upload.
 ghost use Rattle.std.specs.Prelude.{◌≡◌, ◌⊎◌, ◌+◌, ◌≤◌, ◌∷◌, [], ℕ, None, true, false, option_map, OnOk, OnErr, IfOk};
 ghost use Rattle.std.specs.Prelude.{IfErr};
 ghost use Rattle.std.specs.Ordering.{nat_cmp};
@@ -30,7 +30,7 @@ use uploads::Upload;
 /// The counts to which an object adds, in the order in which they are tested.
 const ADDED: [What; 2] = [What::Versions, What::Names];
 
-/// Gives the object that the parts of an upload make: of all their bytes, and created at the moment.
+/// Returns the object that the parts of an upload make: it has all their bytes, and is created at the moment.
 ///
 /// # Errors
 ///
@@ -66,8 +66,8 @@ pub(crate) fn whole(
     })
 }
 
-/// Puts the object that an upload makes under its key, and ends the stays of the parts. The counts are those without
-/// the upload.
+/// Puts the object that an upload makes under its key, and ends the stays of the parts. `counts` no longer include the
+/// upload.
 pub(crate) fn put_whole(
     stacks: &mut BTreeMap<Key, Stack>,
     meters: &mut Meters,

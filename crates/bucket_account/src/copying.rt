@@ -1,4 +1,4 @@
-// The records of a bucket are copied.
+// Copies the records of a bucket.
 ghost use Rattle.std.specs.Prelude.{◌≡◌, IfOk};
 ghost use Rattle.std.specs.Ordering.{nat_cmp};
 ghost use Rattle.office_base.specs.Maps.{bytes_cmp, Rises};
@@ -49,7 +49,7 @@ fn copy_uploads(
     Ok(copies)
 }
 
-/// Copies the records of a bucket. Fails only for want of memory.
+/// Copies the records of a bucket. Fails only if memory runs out.
 ///
 /// Cost: for each key and upload a search of those before it, and a copy.
 pub(crate) fn copy_of(alloc: Global, bucket: &Bucket) -> Result<Bucket, AllocError>

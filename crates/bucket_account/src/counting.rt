@@ -1,4 +1,4 @@
-// What a bucket has of each kind that has a limit is counted in passes over its records.
+// Counts what a bucket has of each kind that has a limit, in passes over its records.
 ghost use Rattle.std.specs.Prelude.{◌≡◌, ◌+◌, ◌^◌, ◌<◌, ◌≤◌, length, sum_by, IfOk};
 ghost use Rattle.plain_office.specs.Counts.{version_count, part_count, name_bytes, rules_bytes, tag_bytes, tag_bytes_of};
 
@@ -80,7 +80,7 @@ pub(crate) fn count_names(bucket: &Bucket) -> u64
     count_keys(&bucket.stacks) + count_names_of(&bucket.uploads)
 }
 
-/// Counts the bytes of the printed configuration; 0 where there is none.
+/// Counts the bytes of the printed configuration; 0 if there is none.
 ///
 /// # Errors
 ///

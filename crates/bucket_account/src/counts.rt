@@ -9,7 +9,7 @@ use office_types::{Refusal, What};
 #[derive(Clone, Copy)]
 pub struct Counts {
     pub buckets: u64,
-    /// With delete markers.
+    /// Delete markers count too.
     pub versions: u64,
     pub uploads: u64,
     pub parts: u64,
@@ -62,21 +62,21 @@ impl Counts {
         }
     }
 
-    /// There is more of a kind than its limit.
+    /// Whether there is more of a kind than its limit.
     fn is_over(self, what: What) -> bool
         ensures { result ≡ nat_lt (limit_of what) (amount what self) }
     {
         self.of(what) > limit(what)
     }
 
-    /// Gives the first of these that is above its limit.
+    /// Returns the first of these that is above its limit.
     fn first_above(self, whats: &[What]) -> Option<What>
         ensures { result ≡ first_over whats.now self }
     {
         whats.iter().copied().find(|what| self.is_over(*what))
     }
 
-    /// Gives the counts again, or refuses them for the first of these that is above its limit.
+    /// Returns the same counts, or refuses them for the first of these that is above its limit.
     ///
     /// # Errors
     ///

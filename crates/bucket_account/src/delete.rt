@@ -1,4 +1,4 @@
-// A key or a version is deleted.
+// Deletes a key or a version.
 ghost use Rattle.std.specs.Prelude.{◌≡◌, ◌<◌, ◌∷◌, [], ℕ, OnOk, OnErr, IfOk, Some, if◌then◌else◌};
 ghost use Rattle.plain_office.specs.Office as plain;
 ghost use Rattle.plain_office.specs.Step.{is_unversioned, delete, delete_version};
@@ -24,7 +24,7 @@ use stacks::{Kind, Stack, Versioning};
 use std::alloc::Global;
 use std::collections::BTreeMap;
 
-/// The count that is tested where a null version goes (own).
+/// The count that is tested when a null version goes (own).
 const REMOVED: [What; 1] = [What::Names];
 
 /// The counts to which a delete marker adds, in the order in which they are tested.
@@ -135,7 +135,7 @@ pub(crate) fn delete(
     }
 }
 
-/// Tells what a version is refused for that is not in this stack.
+/// Returns the refusal of a version that is not in this stack; `None` if it is there.
 #[tactic(auto, using(crate::proofs::Deletes::any_found))]
 fn missing_in(stack: &Stack, id: &VersionId) -> Option<Refusal>
     ensures { result ≡ missing_from id.now (Some stack.now) }
@@ -147,7 +147,7 @@ fn missing_in(stack: &Stack, id: &VersionId) -> Option<Refusal>
     }
 }
 
-/// Tells what a version is refused for that is not under its key.
+/// Returns the refusal of a version that is not under its key; `None` if it is there.
 fn missing(stacks: &BTreeMap<Key, Stack>, key: &Key, id: &VersionId) -> Option<Refusal>
     ensures { result ≡ missing key.now id.now stacks.now.entries }
 {

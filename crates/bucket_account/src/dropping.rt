@@ -1,4 +1,4 @@
-// An upload goes with all its parts.
+// Removes an upload with all its parts.
 ghost use Rattle.std.specs.Prelude.{◌≡◌, ◌+◌, ◌<◌, ◌≤◌, [], ℕ, length, IfOk, IsSome};
 ghost use Rattle.std.specs.List.{AllByRecursion};
 ghost use Rattle.std.specs.Ordering.{nat_cmp};
@@ -25,7 +25,7 @@ use moments::Moment;
 use office_types::Refusal;
 use uploads::Upload;
 
-/// Gives when the first of the parts that are left was put; this moment where all of them were put later.
+/// Returns when the first of the parts that are left was put; this moment if all of them were put later.
 pub(crate) fn first_put(upload: &Upload, at: Moment) -> Moment
     ensures parts { AllByRecursion (λ part. result ≤ part.1.put) upload.now.parts }
     ensures at { result ≤ at }
@@ -40,7 +40,7 @@ pub(crate) fn first_put(upload: &Upload, at: Moment) -> Moment
     first
 }
 
-/// Gives the line of a part.
+/// Returns the line of a part.
 pub(crate) fn part_billed(class: Class, size: u64) -> Lines
     requires { size ≤ largest_size }
     ensures lines { lines_of result ≡ part_line class size }
@@ -66,7 +66,7 @@ pub(crate) fn end_parts(meters: &mut Meters, upload: &Upload, at: Moment)
     }
 }
 
-/// Gives the counts once an upload has gone.
+/// Returns the counts once an upload has gone.
 pub(crate) fn without(counts: Counts, upload: &Upload) -> Counts
     requires uploads { 1 ≤ counts.uploads }
     requires parts { length upload.now.parts ≤ counts.parts }
@@ -81,7 +81,7 @@ pub(crate) fn without(counts: Counts, upload: &Upload) -> Counts
     }
 }
 
-/// Takes an upload out of a bucket, ends the stays of its parts at the moment, and gives the counts after it.
+/// Takes an upload out of a bucket, ends the stays of its parts at the moment, and returns the counts after it.
 ///
 /// Rule: S3 User Guide, "Aborting a multipart upload".
 /// Cost: two passes over the parts.

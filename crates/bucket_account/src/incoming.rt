@@ -11,10 +11,10 @@ use moments::Moment;
 use office_base::{Nth, Tags, VersionId};
 use stacks::{Kind, Stack, Version, Versioning};
 
-/// A version that comes, but for its key.
+/// A version that comes, without its key.
 #[derive(Drop)]
 pub(crate) struct Incoming {
-    /// That of its bucket.
+    /// The versioning of its bucket.
     pub(crate) versioning: Versioning,
     /// The number that it gets in an Enabled bucket.
     pub(crate) number: u64,
@@ -22,14 +22,14 @@ pub(crate) struct Incoming {
     pub(crate) at: Moment,
 }
 
-/// What has to be known of a version before it goes: since when it has its lines, and the bytes of its tags.
+/// What must be known of a version before it goes: since when it has its lines, and the bytes of its tags.
 #[derive(Clone, Copy)]
 pub(crate) struct Leaving {
     pub(crate) since: Moment,
     pub(crate) tag_bytes: u64,
 }
 
-/// Gives the id of the next version.
+/// Returns the id of the next version.
 pub(crate) fn id_of(versioning: Versioning, number: u64) -> VersionId
     requires { 0 < number }
     ensures { result ≡ new_id versioning number }
@@ -94,7 +94,7 @@ fn leave_of(version: &Version) -> Leaving
     }
 }
 
-/// Tells of the version with this id what has to be known before it goes.
+/// Returns what must be known of the version with this id before it goes.
 pub(crate) fn leaving_at(stack: &Stack, id: &VersionId) -> Option<Leaving>
     ensures { result ≡ option_map leaving_of (version_at id.now stack.now.versions) }
 {
@@ -104,7 +104,7 @@ pub(crate) fn leaving_at(stack: &Stack, id: &VersionId) -> Option<Leaving>
     }
 }
 
-/// Tells what goes where a version is put on these: the null version, unless the new one gets a number.
+/// Returns what a version replaces that is put on these: the null version, unless the new one gets a number.
 pub(crate) fn replaced(versioning: Versioning, stack: &Stack) -> Option<Leaving>
     ensures { result ≡ option_map leaving_of (replaced versioning stack.now.versions) }
 {
@@ -114,7 +114,7 @@ pub(crate) fn replaced(versioning: Versioning, stack: &Stack) -> Option<Leaving>
     }
 }
 
-/// Gives since when what goes has its lines, or the moment where nothing goes.
+/// Returns since when the version that goes has its lines; the moment if nothing goes.
 pub(crate) fn since_of(gone: &Option<Leaving>, at: Moment) -> Moment
     ensures { result ≡ leaving_since at gone.now }
 {

@@ -1,4 +1,4 @@
-// The lifecycle configuration of a bucket is set or dropped.
+// Sets or drops the lifecycle configuration of a bucket.
 ghost use Rattle.std.specs.Prelude.{◌≡◌, ◌+◌, ◌-◌, ◌^◌, ◌<◌, ◌≤◌, ◌∷◌, [], ℕ, length, OnOk, OnErr, IfOk, IfErr};
 ghost use Rattle.rules_json.specs.Printing.{printed};
 ghost use Rattle.plain_office.specs.Office as plain;
@@ -34,7 +34,7 @@ fn text_length(alloc: Global, rules: &RuleSet) -> Result<u64, Refusal>
     }
 }
 
-/// Gives the counts once a text of so many bytes has gone and another one has come.
+/// Returns the counts after a text of `come` bytes replaced one of `gone` bytes.
 fn moved(counts: Counts, gone: u64, come: u64) -> Counts
     requires some { gone ≤ counts.rules }
     requires few { counts.rules + come < 2 ^ 64 }
@@ -46,7 +46,7 @@ fn moved(counts: Counts, gone: u64, come: u64) -> Counts
     }
 }
 
-/// Sets the lifecycle configuration. The one before has a text of so many bytes.
+/// Sets the lifecycle configuration. The text of the one before has `text_bytes` bytes; 0 if there is none.
 ///
 /// Rule: S3 User Guide, "Setting an S3 Lifecycle configuration on a bucket": a configuration replaces the one before.
 /// Cost: one printing of the configuration, one copy of it.
@@ -93,7 +93,7 @@ pub(crate) fn set_rules(
     })
 }
 
-/// Drops the lifecycle configuration, whose text has so many bytes.
+/// Drops the lifecycle configuration, whose text has `text_bytes` bytes.
 ///
 /// # Errors
 ///

@@ -1,4 +1,4 @@
-// An object moves to another class.
+// Moves an object to another class.
 ghost use Rattle.std.specs.Prelude.{◌≡◌, ◌+◌, ◌<◌, ◌≤◌, [], ℕ, Some, IsTrue, option_map, OnOk, OnErr, IfOk, IfErr};
 ghost use Rattle.office_base.specs.Maps.{bytes_cmp, with_name, Rises};
 ghost use Rattle.stacks.specs.Stacks.{has_id, version_at, after_move};
@@ -25,7 +25,7 @@ use office_types::Refusal;
 use stacks::{Kind, Stack, Version};
 use std::collections::BTreeMap;
 
-/// Books that an object moves: its stay ends, with what it owes, one in the other class begins, and the move is
+/// Books that an object moves. Its stay ends, with what it owes; a stay in the other class begins; and the move is
 /// counted.
 fn book_move(
     meters: &mut Meters,
@@ -158,10 +158,10 @@ fn move_under(
     }
 }
 
-/// Moves an object to another class at a moment, and gives the counts after it, which are those before.
+/// Moves an object to another class at a moment, and returns the counts after it, which are those before.
 ///
 /// Rule: S3 User Guide, "Transitioning objects using Amazon S3 Lifecycle".
-/// Cost: one search of the keys and two of the stack. No memory but for the months that the meters have no row for.
+/// Cost: one search of the keys and two of the stack. Memory only for months that have no row in the meters yet.
 ///
 /// # Errors
 ///

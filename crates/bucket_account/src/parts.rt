@@ -1,4 +1,4 @@
-// A part of an upload is put.
+// Puts a part of an upload.
 ghost use Rattle.std.specs.Prelude.{◌≡◌, ◌⊎◌, ◌+◌, ◌<◌, ◌≤◌, ◌∷◌, [], ℕ, List, None, true, false, OnOk, OnErr, IfOk};
 ghost use Rattle.std.specs.Prelude.{IfErr};
 ghost use Rattle.uploads.specs.Uploads.{IsUpload, new_part, part_at, after_part, admits_part};
@@ -23,7 +23,7 @@ use uploads::{Part, Upload, UploadRefusal};
 /// The count to which a part adds.
 const ADDED: [What; 1] = [What::Parts];
 
-/// Puts a part in its upload, and gives the one that it replaces.
+/// Puts a part in its upload, and returns the one that it replaces.
 fn put_kept(
     upload: &mut Upload,
     number: u32,
@@ -48,7 +48,7 @@ fn put_kept(
     }
 }
 
-/// Tells why a part is not put where there would be too many: its own range is tested first.
+/// Returns the refusal of a part if there would be too many: the part's own range is tested first.
 fn refused(upload: &Upload, number: u32, size: u64, at: Moment, full: Refusal) -> Refusal
     ensures { ((result ≡ Refusal.BadPart) × (admits_part number (new_part size at) upload.now.parts ≡ false))
         ⊎ ((result ≡ full) × (admits_part number (new_part size at) upload.now.parts ≡ true)) }
@@ -60,7 +60,7 @@ fn refused(upload: &Upload, number: u32, size: u64, at: Moment, full: Refusal) -
     }
 }
 
-/// Gives the counts once a part has come, within their limits.
+/// Returns the counts once a part has come, within their limits.
 pub(crate) fn with_part(
     counts: Counts,
     upload: &Upload,
@@ -88,7 +88,7 @@ pub(crate) fn with_part(
     }
 }
 
-/// Reads since when the part with this number is stored, or gives the moment where there is none.
+/// Returns since when the part with this number is stored; the moment if there is none.
 fn put_since(upload: &Upload, number: u32, at: Moment) -> Moment
     ensures since { result ≡ put_since at (part_at number upload.now.parts) }
     ensures ranges { IsUpload upload.now }
@@ -99,7 +99,7 @@ fn put_since(upload: &Upload, number: u32, at: Moment) -> Moment
     }
 }
 
-/// Books that a part goes, where there is one.
+/// Books that a part goes, if there is one.
 fn end_part(meters: &mut Meters, class: Class, gone: &Option<Part>, at: Moment)
     requires ends { MayEndAt at meters.old gone.now }
     requires open { (key : List ℕ) × (item : Item) × (books : Books) × AreTotalsOf meters.old (book_of books)

@@ -1,4 +1,4 @@
-// An object is put.
+// Puts an object.
 ghost use Rattle.std.specs.Prelude.{◌<◌, ◌∷◌, [], ℕ, OnOk, OnErr, IfOk};
 ghost use Rattle.plain_office.specs.Office as plain;
 ghost use Rattle.plain_office.specs.Step.{put_object};

@@ -1,4 +1,4 @@
-// A version goes.
+// Removes a version.
 ghost use Rattle.std.specs.Prelude.{◌≡◌, ◌⊎◌, ◌+◌, ◌<◌, ◌≤◌, ℕ, None, option_map, OnOk, OnErr, IfOk, IfErr, IsSome};
 ghost use Rattle.office_base.specs.Maps.{bytes_cmp, Rises};
 ghost use Rattle.rules_core.specs.Matching.{is_empty};
@@ -27,7 +27,7 @@ use office_types::{Refusal, What};
 use stacks::{Stack, Version};
 use std::collections::BTreeMap;
 
-/// Counts the bytes of a key that goes with the one version that it has.
+/// Counts the bytes of a key that goes with its last version; 0 if other versions are left.
 fn lost_bytes(key: &Key, versions: &[Version]) -> u64
     ensures { result ≡ lost_bytes key.now versions.now }
 {
@@ -38,7 +38,7 @@ fn lost_bytes(key: &Key, versions: &[Version]) -> u64
     }
 }
 
-/// Gives the counts after a version went with so many bytes of its key, within their limits.
+/// Returns the counts after a version went with these bytes of its key, within their limits.
 fn counted(
     counts: Counts,
     key_bytes: u64,
@@ -75,7 +75,7 @@ fn taken(stack: &mut Stack, id: VersionId, at: Moment) -> Option<Version>
     }
 }
 
-/// Takes a version out of its stack, books that it goes, and tells whether none is left.
+/// Takes a version out of its stack, books that it goes, and reports whether none is left.
 fn take_off(
     stack: &mut Stack,
     meters: &mut Meters,
@@ -106,7 +106,7 @@ fn take_off(
     Ok(stack.versions().is_empty())
 }
 
-/// Takes a version out of its stack, and gives the counts after it and whether no version is left.
+/// Takes a version out of its stack, and returns the counts after it and whether no version is left.
 fn take_from(
     stack: &mut Stack,
     meters: &mut Meters,
@@ -144,7 +144,7 @@ fn take_from(
     Ok((after, emptied))
 }
 
-/// Takes a version from under its key, which goes with its last one, and gives the counts after it.
+/// Takes a version from under its key, and returns the counts after it. The key goes with its last version.
 fn take_version(
     stacks: &mut BTreeMap<Key, Stack>,
     meters: &mut Meters,
@@ -189,11 +189,11 @@ fn take_version(
     }
 }
 
-/// Removes a version or delete marker that is there, and gives the counts after it. A key goes with its last version.
+/// Removes a version or delete marker that is there, and returns the counts after it. A key goes with its last version.
 ///
 /// Rule: S3 User Guide, "Deleting object versions from a versioning-enabled bucket".
-/// Cost: one search of the keys and one of the stack, the older versions move up; a second search of the keys where the
-/// key goes.
+/// Cost: one search of the keys and one of the stack, and the older versions move up; a second search of the keys if
+/// the key goes.
 ///
 /// # Errors
 ///

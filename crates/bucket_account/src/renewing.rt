@@ -1,4 +1,4 @@
-// The index of a bucket's next actions is renewed after a change, and asked for the first of them.
+// Renews the index of a bucket's next actions after a change, and reads the first of them.
 ghost use Rattle.std.specs.Prelude.{◌≡◌, IfOk, IfSome, Some};
 ghost use Rattle.office_base.specs.Maps.{at_number};
 ghost use Rattle.uploads.specs.Uploads.{UploadRecord};
@@ -14,7 +14,7 @@ use office_base::{Key, NoMemory};
 use office_types::Command;
 use std::alloc::Global;
 
-/// Renews what comes next on a key. Where memory is wanting, there is no index any more.
+/// Renews what comes next on a key. If memory runs out, the index is dropped.
 pub(crate) fn renew_key(index: &mut Option<DueIndex>, bucket: &Bucket, key: &Key)
     requires rest { IfSome index.old (λ index. StandsButKey index bucket.now key.now) }
     ensures stands { IfSome index.new (λ index. StandsFor index bucket.now) }
@@ -27,7 +27,7 @@ pub(crate) fn renew_key(index: &mut Option<DueIndex>, bucket: &Bucket, key: &Key
     }
 }
 
-/// Renews what comes next on an upload. Where memory is wanting, there is no index any more.
+/// Renews what comes next on an upload. If memory runs out, the index is dropped.
 pub(crate) fn renew_upload(index: &mut Option<DueIndex>, bucket: &Bucket, number: u64)
     requires rest { IfSome index.old (λ index. StandsButUpload index bucket.now number) }
     ensures stands { IfSome index.new (λ index. StandsFor index bucket.now) }
@@ -52,7 +52,7 @@ pub(crate) fn renew_key_of(index: &mut Option<DueIndex>, bucket: &Bucket, number
     }
 }
 
-/// Builds the index anew. Where memory is wanting, there is none.
+/// Builds the index anew. If memory runs out, there is none.
 pub(crate) fn renew_all(index: &mut Option<DueIndex>, alloc: Global, bucket: &Bucket)
     ensures stands { IfSome index.new (λ index. StandsFor index bucket.now) }
 {
@@ -94,7 +94,7 @@ pub(crate) fn renew_target(index: &mut Option<DueIndex>, bucket: &Bucket, action
     }
 }
 
-/// Builds the index where there is none.
+/// Builds the index if there is none.
 pub(crate) fn build_where_none(index: &mut Option<DueIndex>, alloc: Global, bucket: &Bucket)
     requires stands { IfSome index.old (λ index. StandsFor index bucket.now) }
     ensures stands { IfSome index.new (λ index. StandsFor index bucket.now) }
@@ -113,7 +113,7 @@ pub(crate) fn entries_of(index: &DueIndex, bucket: &Bucket) -> u64
     index.entries()
 }
 
-/// Finds the action that is due first: by the index, or in a pass over the bucket where there is none.
+/// Finds the action that is due first: by the index, or in a pass over the bucket if there is no index.
 pub(crate) fn first_of(
     index: &Option<DueIndex>,
     bucket: &Bucket,

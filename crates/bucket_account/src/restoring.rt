@@ -1,4 +1,4 @@
-// An account is made of a bucket's records: the stay of each version and part is opened.
+// Makes an account of a bucket's records: opens the stay of each version and part.
 ghost use Rattle.std.specs.Prelude.{◌≡◌, ◌+◌, ◌≤◌, ◌<◌, ◌∷◌, [], ℕ, length, flat_map, sum_by, OnOk};
 ghost use Rattle.class_rules.specs.Lines.{lines_of};
 ghost use Rattle.accrual.specs.Books.{Book, open_stay, book_with_stay};

@@ -1,4 +1,4 @@
-// The tags of an object version are replaced.
+// Replaces the tags of an object version.
 ghost use Rattle.std.specs.Prelude.{◌≡◌, ◌+◌, ◌-◌, ◌<◌, ◌≤◌, ◌^◌, ◌∷◌, [], ℕ, length, None, Some, Ok, OnOk, OnErr};
 ghost use Rattle.std.specs.Prelude.{IfOk, IfErr, IsOk};
 ghost use Rattle.office_base.specs.Maps.{bytes_cmp, at_name, with_name, Rises};
@@ -55,7 +55,7 @@ fn bytes_at(stack: &Stack, id: VersionId) -> Result<u64, Refusal>
     }
 }
 
-/// Gives the counts after tags came in the place of so many bytes of others, within their limits.
+/// Returns the counts after these tags replaced others of `before` bytes, within their limits.
 fn counted(counts: Counts, before: u64, tags: &Tags) -> Result<Counts, Refusal>
     requires names { counts.names ≤ 2 ^ 32 }
     requires before { before ≤ counts.names }
@@ -84,7 +84,7 @@ fn replace(stack: &mut Stack, id: &VersionId, tags: Tags, at: Moment)
     }
 }
 
-/// Replaces the tags of an object of this stack, and gives the counts after it.
+/// Replaces the tags of an object of this stack, and returns the counts after it.
 fn retag(
     stack: &mut Stack,
     id: &VersionId,
@@ -107,7 +107,7 @@ fn retag(
     Ok(after)
 }
 
-/// Replaces the tags of an object under a key of these stacks, and gives the counts after it.
+/// Replaces the tags of an object under a key of these stacks, and returns the counts after it.
 fn retag_under(
     stacks: &mut BTreeMap<Key, Stack>,
     key: &Key,

@@ -1,4 +1,4 @@
-// Multipart uploads are started, filled, completed and aborted.
+// Starts, fills, completes and aborts multipart uploads.
 ghost use Rattle.std.specs.Prelude.{◌≡◌, ◌+◌, ◌^◌, ◌<◌, ◌≤◌, ◌∷◌, [], ℕ, None, OnOk, OnErr, IfOk, IfErr, IfSome};
 ghost use Rattle.uploads.specs.Uploads.{new_upload};
 ghost use Rattle.due_index.specs.Index.{StandsFor};
@@ -33,7 +33,7 @@ use uploads::Upload;
 /// The counts to which an upload adds, in the order in which they are tested.
 const STARTED: [What; 2] = [What::Uploads, What::Names];
 
-/// Gives the counts once an upload has started, within their limits.
+/// Returns the counts once an upload has started, within their limits.
 fn counted(counts: Counts, key: &Key, tags: &Tags) -> Result<Counts, Refusal>
     requires uploads { counts.uploads ≤ 40_000 }
     requires names { counts.names ≤ 2 ^ 32 }
@@ -49,7 +49,7 @@ fn counted(counts: Counts, key: &Key, tags: &Tags) -> Result<Counts, Refusal>
     after.within(&STARTED)
 }
 
-/// Gives an upload without parts.
+/// Returns an upload without parts.
 fn started(
     alloc: Global,
     key: &Key,
@@ -116,11 +116,11 @@ pub(crate) fn start_upload(
     })
 }
 
-/// Puts a part of an upload. The one with its number goes.
+/// Puts a part of an upload. It replaces the part with the same number.
 ///
 /// Rule: S3 User Guide, "Uploading and copying objects using multipart upload": parts upload.
-/// Cost: one search of the uploads and four of the parts; where a new part is refused for the count, a copy of the
-/// upload besides.
+/// Cost: one search of the uploads and four of the parts; if a new part is refused for the count, also a copy of the
+/// upload.
 ///
 /// # Errors
 ///
@@ -161,8 +161,8 @@ pub(crate) fn put_part(
     })
 }
 
-/// Makes an object of the parts of an upload, which goes. What comes next is renewed on the key first, and then on the
-/// upload.
+/// Makes an object of the parts of an upload, and removes the upload. What comes next is renewed first on the key, then
+/// on the upload.
 ///
 /// Rule: S3 User Guide, "Uploading and copying objects using multipart upload": completion. Own rule: the object is
 /// created at the moment.

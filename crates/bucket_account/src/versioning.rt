@@ -1,4 +1,4 @@
-// The versioning of a bucket is set.
+// Sets the versioning of a bucket.
 ghost use Rattle.std.specs.Prelude.{◌≡◌, ◌<◌, [], ℕ, OnOk, OnErr, IfOk, if◌then◌else◌};
 ghost use Rattle.plain_office.specs.Office as plain;
 ghost use Rattle.plain_office.specs.Step.{is_unversioned, set_versioning};
@@ -31,8 +31,8 @@ fn versioning_of(enabled: bool) -> Versioning
     }
 }
 
-/// Sets whether a bucket keeps versions: enabled, or suspended. No lifecycle action stands before the moment then, also
-/// where the bucket had this versioning before.
+/// Sets whether a bucket keeps versions: enabled, or suspended. No lifecycle action stands before the moment then, even
+/// if the bucket had this versioning before.
 ///
 /// Rule: S3 User Guide, "Using versioning in S3 buckets".
 ///
