@@ -24,7 +24,7 @@ module _ (month : ℕ) where
   abbrev holds : Prices → Bool
   holds tariff = nat_le tariff.from month
 
-  -- the first tariff holds where no later one does
+  -- the first tariff holds if no later one does
   first_or : (tariff : Prices) (tariffs : List Prices) → in_force month (tariff ∷ tariffs) ≡ option_or (in_force month tariffs) (cond (holds tariff) (Some tariff) None)
   first_or tariff tariffs = ap (find holds) (reverse-append (tariff ∷ []) tariffs) ∙ find-append holds (reverse tariffs) (tariff ∷ [])
 

@@ -37,7 +37,7 @@ open_small p first last h is_first is_last small before =
     (subst (λ (o : Option ℕ). IfSome o (λ month. FollowEachOther month (numbers p.closed))) is_first h.months)
     (subst (λ (o : Option ℕ). MatchOption o (IsBlank p) (λ moment. IsOrderlyUntil moment p)) is_last h.moments).closed
 
--- no first month where no command was accepted
+-- no first month if no command was accepted
 none_first : (p : Office) → IsOrderlyRecords p → p.last ≡ None → p.first_month ≡ None
 none_first p h is = (subst (λ (o : Option ℕ). MatchOption o (IsBlank p) (λ moment. IsOrderlyUntil moment p)) is h.moments).first_month
 

@@ -96,13 +96,13 @@ months_kept p q kept = record { closed = kept.closed; answers = by } where
       report_answer p q kept month found.0 (month_over p month found.0 h.orderly found.1) found.1 u v h.over_now h.over_later
   by other u v h = absurd h
 
--- where nothing is done
+-- if nothing is done
 pub months_stay : (p : Office) → KeepsClosedMonths p p
 months_stay p = months_kept p p (closed_same (closed_until p) p p refl refl)
 
 -- ---- what a command leaves
 
--- where nothing is done
+-- if nothing is done
 leaves_all : (t : ℕ) (asked : Command) (p : Office) → IsOrderly p → Leaves t asked p p
 leaves_all t asked p orderly = record {
   orderly = orderly;

@@ -1,4 +1,4 @@
--- The closing of months, told by what stands in the office.
+-- The closing of months, by what the office has.
 use Rattle.std.proofs.Common.{◌≡◌, ℕ, ◌<◌, ◌≤◌, List, [], ◌∷◌, ◌++◌, map, refl, ap, ◌∙◌, arith}
 use Rattle.std.specs.Prelude.{Option, Some, None, Ok, Err}
 use Rattle.moments.specs.Months.{months, month_end}

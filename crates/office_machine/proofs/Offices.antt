@@ -118,7 +118,7 @@ module _ (records : Records) (p : Office) (stands : StandsForOffice records p) w
     pub later_plain : is_not_before p.last t ≡ true
     later_plain = subst (λ (last : Option ℕ). is_not_before last t ≡ true) stands.last later
 
-    -- an accepted command that changed accounts and counts alone
+    -- an accepted command that changed only accounts and counts
     moved_on : (q : Office) (accounts : List (List ℕ × AccountRecord)) (counts : Counts) (number : ℕ) → q.tariffs ≡ p.tariffs → q.first_month ≡ p.first_month → q.closed ≡ p.closed
         → StandForAccounts accounts q.accounts → AreCountsOf (accepted t q) counts → IsOrderly (accepted t q)
         → StandsForOffice (accepted_records t records accounts counts number) (accepted t q)
@@ -132,7 +132,7 @@ module _ (records : Records) (p : Office) (stands : StandsForOffice records p) w
       counts = are;
     }
 
-    -- an accepted command that changed the tariffs or the closed months alone
+    -- an accepted command that changed only the tariffs or the closed months
     office_on : (q : Office) (tariffs : List Prices) (closed : List (ℕ × Prices)) (counts : Counts) (number : ℕ) → tariffs ≡ q.tariffs
         → q.first_month ≡ p.first_month → closed ≡ q.closed → q.accounts ≡ p.accounts → AreCountsOf (accepted t q) counts → IsOrderly (accepted t q)
         → StandsForOffice (accepted_records t (record records { tariffs = tariffs; closed = closed }) records.accounts counts number) (accepted t q)

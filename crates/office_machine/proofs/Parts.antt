@@ -1,4 +1,4 @@
--- Parts of a snapshot are told of the buckets one after another, and buckets are made of parts.
+-- Parts of a snapshot are made of the buckets one after another, and buckets are made of parts.
 use Rattle.std.proofs.Common.{◌≡◌, ℕ, ◌+◌, ◌-◌, ◌*◌, ◌≤◌, List, [], ◌∷◌, ◌++◌, map, length, refl, ap, sym, ◌∙◌, subst, arith, append_assoc, Option, Some, None}
 use Rattle.std.specs.Prelude.{sum_by, All, option_map, IfSome, MatchOption}
 use Rattle.std.specs.Bool.{IsTrue}

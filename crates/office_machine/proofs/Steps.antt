@@ -1,4 +1,4 @@
--- What a command gives, told by what stands in the office.
+-- What a command gives, by what the office has.
 use Rattle.std.proofs.Common.{◌≡◌, ℕ, List, [], ◌∷◌, refl, ap, ◌∙◌, subst, Bool, true, false, not, cond}
 use Rattle.std.specs.Prelude.{Option, Some, None, Ok, Err, is_some}
 use Rattle.office_base.specs.Maps.{at_name, with_name}

@@ -57,7 +57,7 @@ count_is Names p = none_more (sum_by (in_entry Names) p.accounts)
 count_is Rules p = none_more (sum_by (in_entry Rules) p.accounts)
 count_is Tariffs p = let none = none_each p.accounts in omega (arith, none)
 
--- it goes by the accounts and the tariffs alone
+-- it depends only on the accounts and the tariffs
 pub same_counts : (what : What) (p q : Office) → p.accounts ≡ q.accounts → p.tariffs ≡ q.tariffs → count_of what p ≡ count_of what q
 same_counts what p q same set =
     count_is what p ∙ ap₂ (λ (l : List Prices) (m : List Entry). beside what l + sum_by (in_entry what) m) set same ∙ sym (count_is what q)

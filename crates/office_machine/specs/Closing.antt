@@ -1,4 +1,4 @@
--- What the parts of closing a month give, in the words of the plain office.
+-- What the parts of closing a month return, in the words of the plain office.
 use Rattle.std.specs.Prelude.{ℕ, List, [], ◌∷◌, ◌++◌, map, Option, option_map, Result}
 use Rattle.moments.specs.Months.{month_end}
 use Rattle.office_base.specs.Results.{◌>>=◌}
@@ -11,7 +11,7 @@ use Rattle.office_types.specs.declared.refusal.Refusal.{Refusal}
 use Rattle.office_types.specs.declared.refusal.Refusal.TheVariants.{DueActions}
 use Rattle.bucket_account.specs.Counting.{AccountRecord}
 
--- what closing tells once its first tests have given the prices, or a refusal
+-- what closing answers once its first tests have given the prices, or a refusal
 abbrev pub closing_with : ℕ → ℕ → Office → Result Prices Refusal → Outcome
 closing_with t month office prices = prices >>= λ tariff.
     unless_due (due_before t (month_end month) office.accounts)
@@ -21,10 +21,10 @@ closing_with t month office prices = prices >>= λ tariff.
 abbrev pub unbooked : List ℕ × AccountRecord → List ℕ × Account
 unbooked entry = (entry.0, record { bucket = entry.1.bucket; books = empty_books })
 
--- the first bucket whose choice stands before a moment, of those in memory
+-- the first bucket in memory whose choice at t stands before the end
 abbrev pub first_due : ℕ → ℕ → List (List ℕ × AccountRecord) → Option (List ℕ × Action)
 first_due t end accounts = due_before t end (map unbooked accounts)
 
--- what closing is refused for then
+-- the refusal of a Close for what is due
 abbrev pub due_refusal : Option (List ℕ × Action) → Option Refusal
 due_refusal due = option_map (λ first. DueActions first.0 first.1.key first.1.target) due

@@ -4,12 +4,12 @@ use Rattle.office_base.specs.Maps.{with_name}
 use Rattle.bucket_account.specs.Counting.{AccountRecord}
 use Rattle.bucket_account.specs.Standing.{IsCopyOf}
 
--- under the same name
+-- the copy has the same name, and a copy of the account
 pub record IsCopiedFrom (copy entry : List ℕ × AccountRecord) : Type 0 where
   pub name : copy.0 ≡ entry.0
   pub account : IsCopyOf copy.1 entry.1
 
--- bucket by bucket: as many, and in the same order
+-- the buckets are copied one by one: as many, and in the same order
 abbrev pub AreCopiesOf : List (List ℕ × AccountRecord) → List (List ℕ × AccountRecord) → Type 0
 AreCopiesOf [] [] = Unit {0}
 AreCopiesOf [] (entry ∷ entries) = ⊥

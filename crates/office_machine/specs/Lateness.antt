@@ -38,21 +38,21 @@ pub record HasEmptySweep (name : List ℕ) (t : ℕ) (office : Office) : Type 0 
 
 -- ---- what else stays
 
--- each bucket that the command does not name has the records and the books that it had, or is not there, as before
--- (own)
+-- each bucket that the command does not name has the records and books that it had before, or is still not there (own)
 abbrev pub LeavesOthers : Command → Office → Office → Type 0
 LeavesOthers asked before after =
     (name : List ℕ) → IsElsewhere name asked → at_name name after.accounts ≡ at_name name before.accounts
 
--- the query is on the use or the charges of a month that a Close closed, and of a bucket that is there; it is asked at
--- u and at v, both from the month's end on
+-- the query asks for the use or the charges of a month that a Close closed, and its bucket, if it names one, is there;
+-- u and v are both from the month's end on
 abbrev pub AsksClosedMonth : ℕ → ℕ → Query → Office → Type 0
 AsksClosedMonth u v (query.Meters name month) office =
     IsClosedMonth month u v office × IsSome (at_name name office.accounts)
 AsksClosedMonth u v (query.Report month) office = IsClosedMonth month u v office
 AsksClosedMonth u v other office = ⊥
 
--- a closed month stays closed, with its prices, and what is answered of it stays, whenever it is asked (own)
+-- a closed month keeps its prices, and each query on it has the same answer at u before and at v after the command
+-- (own)
 pub record KeepsClosedMonths (before after : Office) : Type 0 where
   pub closed : (month : ℕ) (tariff : Prices)
       → at_number month before.closed ≡ Some tariff → at_number month after.closed ≡ Some tariff
@@ -61,8 +61,8 @@ pub record KeepsClosedMonths (before after : Office) : Type 0 where
 
 -- ---- together
 
--- what a command at t leaves of the office before it: the office is orderly again, no later sweep of the bucket of an
--- act ends otherwise, the other buckets and the closed months stay
+-- what a command at t leaves of the office before it: the office is orderly again; if the command is an Act, later
+-- sweeps of its bucket end as before; the other buckets and the closed months stay
 pub record Leaves (t : ℕ) (asked : Command) (before after : Office) : Type 0 where
   pub orderly : IsOrderly after
   pub late : (name : List ℕ) → asked ≡ Act name → LeavesLaterSweeps name t before after

@@ -1,4 +1,4 @@
--- A line of a report that is told in parts.
+-- A line of a report, from its parts.
 use Rattle.std.specs.Prelude.{ℕ, List}
 use Rattle.class_rules.specs.declared.class.Class.{Class}
 use Rattle.office_types.specs.declared.reply.ReportLine.{ReportLine}

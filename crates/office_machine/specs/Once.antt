@@ -18,15 +18,15 @@ pub record StandsFor (view : OfficeView) (office : Office) : Type 0 where
   pub records : StandsForOffice view.records office
   pub kept : plain_replies view.kept.queue ≡ office.kept
 
--- there is a plain office that it stands for; between two calls no token waits for its reply, and no more replies were
--- kept than commands accepted, besides those of a snapshot
+-- there is a plain office that it stands for. Between two calls no token waits for its reply. Apart from those of a
+-- snapshot, no more replies were kept than commands accepted.
 pub record IsAnOffice (view : OfficeView) : Type 0 where
   pub office : Office
   pub stands : StandsFor view office
   pub free : view.kept.held ≡ None
   pub few : view.kept.dropped + length view.kept.queue ≤ view.records.accepted + most_kept
 
--- the answer is the expected one, and the office in memory stands for the office expected; or memory is wanting, and it
+-- the answer is the expected one, and the office in memory stands for the office expected; or memory ran out, and it
 -- stands for the one before
 abbrev pub DoesOnce : Office × Result Reply Refusal → Office → OfficeView → Result Reply Refusal → Type 0
 DoesOnce expected before after result =

@@ -13,7 +13,7 @@ use Rattle.bucket_account.specs.Standing.{StandsForAccount}
 use Rattle.office_snapshot.specs.Restorable.{HaveForm}
 use Rattle.office_snapshot.specs.Snapshots.{BucketPartRecord}
 
--- ---- a part is told of a bucket
+-- ---- a part is made of a bucket
 
 -- the part has the bucket's name and records, and the sums of every account for which the bucket stands
 pub record IsPartOf (part : BucketPartRecord) (entry : List ℕ × AccountRecord) : Type 0 where
@@ -22,7 +22,7 @@ pub record IsPartOf (part : BucketPartRecord) (entry : List ℕ × AccountRecord
   pub sums : (account : Account) → StandsForAccount entry.1 account → AreSumsOf (book_of account.books) part.sums
   pub form : HaveForm part.sums
 
--- bucket by bucket: as many, and in the same order
+-- the parts are made of the buckets one by one: as many, and in the same order
 abbrev pub ArePartsOf : List BucketPartRecord → List (List ℕ × AccountRecord) → Type 0
 ArePartsOf [] [] = Unit {0}
 ArePartsOf [] (entry ∷ entries) = ⊥
@@ -47,14 +47,14 @@ pub record IsMadeOf (entry : List ℕ × AccountRecord) (part : BucketPartRecord
   pub stands : (account : Account) → IsAccountOf part.bucket part.sums account → StandsForAccount entry.1 account
   pub room : IsWithinBy 0 entry.1
 
--- bucket by bucket
+-- the buckets are made of the parts one by one: as many, and in the same order
 abbrev pub AreMadeOf : List (List ℕ × AccountRecord) → List BucketPartRecord → Type 0
 AreMadeOf [] [] = Unit {0}
 AreMadeOf [] (part ∷ parts) = ⊥
 AreMadeOf (entry ∷ entries) [] = ⊥
 AreMadeOf (entry ∷ entries) (part ∷ parts) = IsMadeOf entry part × AreMadeOf entries parts
 
--- the names of the parts rise, each under it its records without books
+-- the names of the parts rise
 abbrev pub NamesRise : List BucketPartRecord → Type 0
 NamesRise parts =
     Rises {X = Account} bytes_cmp (map (λ part. (part.name, record { bucket = part.bucket; books = empty_books })) parts)
@@ -65,7 +65,7 @@ NamesRise parts =
 abbrev pub in_all : What → List (List ℕ × AccountRecord) → ℕ
 in_all what entries = sum_by (λ entry. in_bucket what entry.1.bucket) entries
 
--- each bucket can be counted, and so can all together
+-- each bucket can be counted, and so can all of them together
 pub record CanBeCounted (entries : List (List ℕ × AccountRecord)) : Type 0 where
   pub each : AllByRecursion (λ entry. AreFewIn entry.1.bucket) entries
   pub all : (what : What) → in_all what entries ≤ 2 * limit_of what

@@ -1,4 +1,4 @@
--- What the office in memory stands for: it keeps records, totals and counts, where the plain office has lists.
+-- What the office in memory stands for. The plain office has lists; this one keeps records, totals and counts.
 use Rattle.std.specs.Prelude.{◌≡◌, ◌⊎◌, ℕ, ◌+◌, List, [], ◌∷◌, Option, Result, Err, if◌then◌else◌}
 use Rattle.std.specs.List.{AllByRecursion}
 use Rattle.tariff.specs.Prices.{Prices}
@@ -26,12 +26,12 @@ pub record Records : Type 0 where
   pub counts : Counts
   pub accepted : ℕ
 
--- under the same name
+-- both have the same name, and the bucket stands for the account
 pub record StandsForEntry (records : List ℕ × AccountRecord) (entry : List ℕ × Account) : Type 0 where
   pub name : records.0 ≡ entry.0
   pub account : StandsForAccount records.1 entry.1
 
--- bucket by bucket: as many, and in the same order
+-- the buckets stand for the accounts one by one: as many, and in the same order
 abbrev pub StandForAccounts : List (List ℕ × AccountRecord) → List (List ℕ × Account) → Type 0
 StandForAccounts [] [] = Unit {0}
 StandForAccounts [] (account ∷ accounts) = ⊥
@@ -56,7 +56,7 @@ pub record IsOfAnOffice (records : Records) : Type 0 where
   pub stands : StandsForOffice records office
   pub room : AllByRecursion (λ account. IsWithinBy records.accepted account.1) records.accounts
 
--- the answer is the expected one, and the office in memory stands for the office expected; or memory is wanting, and it
+-- the answer is the expected one, and the office in memory stands for the office expected; or memory ran out, and it
 -- stands for the one before
 abbrev pub Does : Office × Result Reply Refusal → Office → Records → Result Reply Refusal → Type 0
 Does expected before after result =

@@ -1,4 +1,4 @@
-// A month is closed.
+// Closes a month.
 ghost use Rattle.std.specs.Prelude.{◌≡◌, ◌<◌, IfOk, IfErr, IsTrue};
 ghost use Rattle.due_core.specs.Choice.{choice};
 ghost use Rattle.plain_office.specs.Office as plain;
@@ -47,7 +47,7 @@ impl Machine {
         Ok(Reply::Closed { month })
     }
 
-    /// Gives the prices with which a month may be closed: it is over, it is the first that is open, and a tariff is in
+    /// Returns the prices with which a month may be closed: it is over, it is the first open month, and a tariff is in
     /// force in it.
     fn closing_tariff(&self, t: Moment, month: Month) -> Result<Tariff, Refusal>
         ensures tests { (p : plain.Office) → StandsForOffice self.now p
@@ -75,7 +75,8 @@ impl Machine {
     }
 }
 
-/// Tells what closing a month is refused for where a bucket's choice stands before the month's end: the first such.
+/// Returns the refusal of closing a month: the first bucket whose choice stands before the month's end, if there is
+/// one.
 fn due_before(
     accounts: &BTreeMap<BucketName, Account>,
     t: Moment,
@@ -98,7 +99,7 @@ fn due_before(
     Ok(None)
 }
 
-/// Gives the lifecycle action of a bucket that is due first.
+/// Returns the lifecycle action of a bucket that is due first.
 pub(crate) fn choice_of(account: &Account, t: Moment) -> Result<Option<Action>, Refusal>
     ensures exact { IfOk result (λ action. action ≡ choice account.now.bucket t) }
     ensures refusal { IfErr result (λ refusal. refusal ≡ Refusal.NoMemory) }

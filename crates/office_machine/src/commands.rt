@@ -106,14 +106,14 @@ impl Machine {
     }
 }
 
-/// Tells whether this is the reply to an accepted command: every one but that nothing is due.
+/// Reports whether this is the reply to an accepted command: each reply is, except `NothingDue`.
 pub(crate) fn is_accepted(reply: &Reply) -> bool
     ensures { result ≡ is_accepted (Ok reply.now) }
 {
     !matches!(reply, Reply::NothingDue)
 }
 
-/// Gives the month of the first accepted command, where one is accepted at this moment.
+/// Returns the month of the first accepted command, if one is accepted at this moment.
 pub(crate) fn first_of(first: Option<Month>, t: Moment) -> Month
     ensures { result ≡ unwrap_or first (month_at t) }
 {

@@ -1,4 +1,4 @@
-// The records of the office are copied.
+// Copies the records of the office.
 ghost use Rattle.std.specs.Prelude.{◌≡◌, IfOk, OnOk};
 ghost use Rattle.office_base.specs.Maps.{bytes_cmp, Rises};
 ghost use Rattle.plain_office.specs.Office as plain;

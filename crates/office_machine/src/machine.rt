@@ -67,7 +67,7 @@ impl Model for Machine {
 }
 
 impl Machine {
-    /// Gives the office before the first command. Takes no memory.
+    /// Returns the office before the first command. Takes no memory.
     pub(crate) fn new(alloc: Global) -> Machine
         ensures stands { StandsForOffice result empty_office }
         ensures accepted { result.accepted ≡ 0 }
@@ -91,7 +91,7 @@ impl Machine {
         self.last
     }
 
-    /// Reads the account of a bucket; None where there is none of this name. Takes no memory.
+    /// Reads the account of a bucket; `None` if there is none of this name. Takes no memory.
     ///
     /// Cost: one search of the buckets.
     pub(crate) fn account(&self, name: &BucketName) -> Option<&Account>
@@ -101,8 +101,8 @@ impl Machine {
     }
 
     /// Counts the keys and the uploads of a bucket that have an eligible action, whenever it is due: the entries of the
-    /// bucket's queue of next actions. None where there is no bucket of this name, and where memory for its queue was
-    /// wanting. Takes no memory.
+    /// bucket's queue of next actions. `None` if there is no bucket of this name, or if memory for its queue ran out.
+    /// Takes no memory.
     ///
     /// Cost: one search of the buckets.
     pub(crate) fn queued(&self, bucket: &BucketName) -> Option<u64>
@@ -114,7 +114,7 @@ impl Machine {
         }
     }
 
-    /// Tells whether a month was closed. Takes no memory.
+    /// Reports whether a month was closed. Takes no memory.
     ///
     /// Cost: a pass over the closed months.
     pub(crate) fn closed(&self, month: Month) -> bool
@@ -128,8 +128,8 @@ impl Machine {
     ///
     /// # Errors
     ///
-    /// Each is the refusal that the plain office gives, tested in its order; or `NoMemory`: memory ran out. The office
-    /// then stands for what it stood for, and so it does after the reply `NothingDue`.
+    /// Each is the refusal that the plain office gives, tested in its order; or `NoMemory`: memory ran out. After an
+    /// error, and after the reply `NothingDue`, the office stands for what it stood for before.
     pub(crate) fn apply(&mut self, t: Moment, command: &Command) -> Result<Reply, Refusal>
         requires later { IsTrue (is_not_before self.old.last t) }
         requires few { self.old.accepted < most_commands }

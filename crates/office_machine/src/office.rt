@@ -52,7 +52,7 @@ impl Model for Office {
 }
 
 impl Office {
-    /// Gives the office before the first command. Takes no memory.
+    /// Returns the office before the first command. Takes no memory.
     pub fn new(alloc: Global) -> Office
         ensures stands { StandsFor result empty_office }
         ensures accepted { result.records.accepted ≡ 0 }
@@ -63,8 +63,8 @@ impl Office {
         }
     }
 
-    /// Gives the office of a snapshot, in which no command counts as accepted yet. The snapshot keeps what is asked of
-    /// one from which an office is restored.
+    /// Returns the office of a snapshot. No command counts as accepted yet. The snapshot must be one from which an
+    /// office can be restored.
     ///
     /// Cost: passes over all versions, parts and kept replies; each bucket's queue of next actions is built.
     ///
@@ -106,7 +106,7 @@ impl Office {
         Ok(Office { machine, kept })
     }
 
-    /// Tells the office in a snapshot: its records, the sums of its meters, and the kept replies.
+    /// Takes a snapshot of the office: its records, the sums of its meters, and the kept replies.
     ///
     /// Cost: a copy of all records and of what is kept of each reply.
     ///
@@ -149,7 +149,7 @@ impl Office {
         self.machine.last()
     }
 
-    /// Reads the account of a bucket: its records, its meters and its queue of next actions. None where there is no
+    /// Reads the account of a bucket: its records, its meters and its queue of next actions. `None` if there is no
     /// bucket of this name. Takes no memory.
     ///
     /// Cost: one search of the buckets.
@@ -160,8 +160,8 @@ impl Office {
     }
 
     /// Counts the keys and the uploads of a bucket that have an eligible action, whenever it is due: the entries of the
-    /// bucket's queue of next actions. None where there is no bucket of this name, and where memory for its queue was
-    /// wanting. Takes no memory.
+    /// bucket's queue of next actions. `None` if there is no bucket of this name, or if memory for its queue ran out.
+    /// Takes no memory.
     ///
     /// Cost: one search of the buckets.
     pub fn queued(&self, bucket: &BucketName) -> Option<u64>
@@ -170,7 +170,7 @@ impl Office {
         self.machine.queued(bucket)
     }
 
-    /// Tells whether a month was closed. Takes no memory.
+    /// Reports whether a month was closed. Takes no memory.
     ///
     /// Cost: a pass over the closed months.
     pub fn closed(&self, month: Month) -> bool
@@ -179,9 +179,9 @@ impl Office {
         self.machine.closed(month)
     }
 
-    /// Recalls the reply to a command that carries a token; None where no reply is kept under the token.
+    /// Recalls the reply to a command that carries a token; `None` if no reply is kept under the token.
     ///
-    /// Cost: one search of the tokens; where a reply is kept, a pass over both commands.
+    /// Cost: one search of the tokens; if a reply is kept, a pass over both commands.
     ///
     /// # Errors
     ///
@@ -194,21 +194,20 @@ impl Office {
         self.kept.recall(token, command)
     }
 
-    /// Does a command at a moment, and answers it; where it carries a token and is accepted, the reply is kept. `t` is
-    /// not before the moment of the last accepted command, the command may carry the token, and no reply is kept
-    /// under it.
+    /// Does a command at a moment, and answers it. If it carries a token and is accepted, the reply is kept. `t` is not
+    /// before the moment of the last accepted command, the command may carry the token, and no reply is kept under it.
     ///
-    /// Cost: one search of the buckets and one of what the command names in its bucket; `Act` takes the first of its
+    /// Cost: one search of the buckets and one of what the command names in its bucket. `Act` takes the first of its
     /// bucket's queue of next actions, and `Close` reads the first of each bucket's. `SetRules`, `DropRules` and
-    /// `SetVersioning` read all versions and uploads of the bucket, and so does an `Act` or a `Close` where there is no
-    /// queue for want of memory. Memory for copies of names, keys and tags, and for the months since what is removed or
-    /// replaced came. Nothing is counted again. With a token two searches of the tokens, and memory for copies of the
-    /// token and the command.
+    /// `SetVersioning` read all versions and uploads of the bucket. So does an `Act` or a `Close` if there is no queue
+    /// because memory ran out. Memory for copies of names, keys and tags, and for the months since what is removed or
+    /// replaced came. Nothing is counted again. With a token also two searches of the tokens, and memory for copies of
+    /// the token and the command.
     ///
     /// # Errors
     ///
-    /// Each is the refusal that the plain office gives, tested in its order; or `NoMemory`: memory ran out. The office
-    /// then stands for what it stood for, and so it does after the reply `NothingDue`.
+    /// Each is the refusal that the plain office gives, tested in its order; or `NoMemory`: memory ran out. After an
+    /// error, and after the reply `NothingDue`, the office stands for what it stood for before.
     pub fn apply(
         &mut self,
         t: Moment,

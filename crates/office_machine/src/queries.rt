@@ -192,7 +192,7 @@ fn due_of(alloc: Global, account: &Account, t: Moment) -> Result<Reply, Refusal>
     })
 }
 
-/// Gives the id of the rule at this place, from 1; the empty text where there is none.
+/// Returns the id of the rule at this place, from 1; the empty text if there is no such rule.
 fn id_of(alloc: Global, rules: &Option<RuleSet>, place: u32) -> Result<Text, Refusal>
     ensures same { IfOk result (λ id. id ≡ rule_id rules.now place) }
     ensures short { IfOk result (λ id. char_count id ≤ 255) }

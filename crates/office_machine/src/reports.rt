@@ -45,7 +45,7 @@ impl Machine {
         })
     }
 
-    /// Gives the tariff of a month: that of its closing, or the one in force in it.
+    /// Returns the tariff of a month: the one of its closing, or else the one in force in it.
     fn tariff_for(&self, month: Month) -> Option<Tariff>
         ensures { (p : plain.Office) → StandsForOffice self.now p → result ≡ tariff_for month p }
     {
@@ -144,7 +144,7 @@ struct Line {
     charge: u128,
 }
 
-/// Tells the price of one tier, or that there are several.
+/// Returns the price of one tier, or that there are several.
 #[tactic(auto, using(crate::proofs::Charges::several_told))]
 fn price_of(tiers: &Tiers) -> Price
     ensures told { result ≡ price_told tiers.now }
@@ -197,7 +197,7 @@ fn transitions(moves: u64, price: u32) -> Line
     }
 }
 
-/// Adds a line, where its quantity is not 0.
+/// Adds a line, if its quantity is not 0.
 fn push_line(
     lines: &mut Vec<ReportLine>,
     name: &BucketName,

@@ -1,4 +1,4 @@
-// The office is made of a snapshot.
+// Makes the office of a snapshot.
 ghost use Rattle.std.specs.Prelude.{◌≡◌, ◌+◌, ◌-◌, ◌*◌, ◌≤◌, IfOk, OnOk, IfSome, option_map};
 ghost use Rattle.std.specs.List.{AllByRecursion};
 ghost use Rattle.office_base.specs.Maps.{with_name};
@@ -14,7 +14,7 @@ use office_snapshot::BucketPart;
 use std::alloc::Global;
 use std::collections::BTreeMap;
 
-/// Makes a bucket of its part, and gives it under its name.
+/// Makes a bucket of its part, and returns it with its name.
 fn account_of(alloc: Global, part: BucketPart) -> Result<(BucketName, Account), NoMemory>
     requires { IsMakable part }
     ensures { IfOk result (λ entry. IsMadeOf entry part) }
@@ -54,7 +54,7 @@ pub(crate) fn accounts_of(
     Ok(accounts)
 }
 
-/// Adds what there is in two places.
+/// Adds two counts.
 fn sum_of(one: Counts, other: Counts) -> Counts
     requires few { (what : What) → amount what one + amount what other ≤ 4 * limit_of what }
     ensures { (what : What) → amount what result ≡ amount what one + amount what other }
@@ -70,7 +70,7 @@ fn sum_of(one: Counts, other: Counts) -> Counts
     }
 }
 
-/// Adds what there is in the buckets.
+/// Adds the counts of these buckets to `beside`.
 ///
 /// Cost: a pass over all versions, uploads and parts. Takes no memory.
 pub(crate) fn count_all(beside: Counts, accounts: &BTreeMap<BucketName, Account>) -> Counts
@@ -85,7 +85,7 @@ pub(crate) fn count_all(beside: Counts, accounts: &BTreeMap<BucketName, Account>
     counts
 }
 
-/// Gives the month of the first accepted command by the first month that does not count as closed.
+/// Returns the month of the first accepted command, from the first month that does not count as closed.
 pub(crate) fn first_month_of(first_open: Option<Month>, closed: u64) -> Option<Month>
     requires { IfSome first_open (λ month. closed ≤ month) }
     ensures { result ≡ option_map (λ month. month - closed) first_open }

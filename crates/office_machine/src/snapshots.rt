@@ -1,4 +1,4 @@
-// The office is told in a snapshot.
+// Takes a snapshot of the office.
 ghost use Rattle.std.specs.Prelude.{◌≡◌, ◌++◌, ◌∷◌, ◌<◌, [], IfOk, IfSome, OnOk};
 ghost use Rattle.std.specs.List.{AllByRecursion};
 ghost use Rattle.moments.specs.Time.{end_of_time};
@@ -19,7 +19,7 @@ use std::collections::BTreeMap;
 use tariff::Tariff;
 
 impl Machine {
-    /// Tells the records in a snapshot with these kept replies.
+    /// Takes a snapshot of the records, with these kept replies.
     pub(crate) fn snapshot(&self, alloc: Global, kept: Vec<Kept>) -> Result<Snapshot, NoMemory>
         ensures shows { IfOk result (λ snapshot. (p : plain.Office) → StandsForOffice self.now p
             → replies_of kept.items ≡ p.kept → Shows snapshot p) }
@@ -40,7 +40,7 @@ impl Machine {
         })
     }
 
-    /// Gives the first month that does not count as closed; none before the first accepted command.
+    /// Returns the first month that does not count as closed; none before the first accepted command.
     fn first_open(&self) -> Option<Month>
         ensures { (p : plain.Office) → StandsForOffice self.now p → result ≡ first_open_of p }
     {
@@ -103,7 +103,7 @@ fn push_part(parts: &mut Vec<BucketPart>, part: BucketPart) -> Result<(), NoMemo
     }
 }
 
-/// Gives the part of a bucket.
+/// Returns the part of a bucket.
 fn part_of(alloc: Global, name: &BucketName, account: &Account) -> Result<BucketPart, NoMemory>
     ensures { IfOk result (λ part. IsPartOf part (name.now, account.now)) }
 {

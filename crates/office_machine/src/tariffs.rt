@@ -9,14 +9,14 @@ use office_types::Refusal;
 use std::alloc::Global;
 use tariff::Tariff;
 
-/// Tells whether a tariff begins before a month.
+/// Reports whether a tariff begins before a month.
 fn is_before(tariff: &Tariff, month: Month) -> bool
     ensures { result ≡ nat_lt tariff.now.from month }
 {
     tariff.from.number() < month.number()
 }
 
-/// Tells whether a tariff begins behind a month.
+/// Reports whether a tariff begins after a month.
 fn is_behind(tariff: &Tariff, month: Month) -> bool
     ensures { result ≡ nat_lt month tariff.now.from }
 {
@@ -59,7 +59,7 @@ fn push_later(all: &mut Vec<Tariff>, others: &[Tariff], month: Month) -> Result<
     Ok(())
 }
 
-/// Gives the tariffs with one more, in the place of the one with the same first month.
+/// Returns the tariffs with this one added. It replaces the one with the same first month.
 pub(crate) fn with_tariff(
     alloc: Global,
     tariff: &Tariff,
@@ -81,7 +81,7 @@ fn has_begun(tariff: &Tariff, month: Month) -> bool
     tariff.from.number() <= month.number()
 }
 
-/// Gives this tariff where it has begun, or else the one that was found before.
+/// Returns this tariff if it has begun, or else the one that was found before.
 fn begun_or(tariff: &Tariff, month: Month, found: Option<Tariff>) -> Option<Tariff>
     ensures { result ≡ (if nat_le tariff.now.from month then Some tariff.now else found) }
 {
@@ -92,7 +92,7 @@ fn begun_or(tariff: &Tariff, month: Month, found: Option<Tariff>) -> Option<Tari
     }
 }
 
-/// Gives the last of these tariffs that begins by a month.
+/// Returns the last of these tariffs that begins by a month.
 fn latest(tariffs: &[Tariff], month: Month) -> Option<Tariff>
     ensures { result ≡ latest month None tariffs.now }
 {
@@ -103,7 +103,7 @@ fn latest(tariffs: &[Tariff], month: Month) -> Option<Tariff>
     found
 }
 
-/// Gives the tariff in force in a month: the last one of these that begins by then. Tariffs stand in the order of their
+/// Returns the tariff in force in a month: the last of these that begins by then. The tariffs are in the order of their
 /// first months.
 #[tactic(auto, using(crate::proofs::ByMonths::latest_is))]
 pub fn in_force(tariffs: &[Tariff], month: Month) -> Option<Tariff>
@@ -112,7 +112,7 @@ pub fn in_force(tariffs: &[Tariff], month: Month) -> Option<Tariff>
     latest(tariffs, month)
 }
 
-/// Gives the tariffs again, for an answer.
+/// Copies the tariffs, for an answer.
 pub(crate) fn copy_of_all(alloc: Global, tariffs: &[Tariff]) -> Result<Vec<Tariff>, Refusal>
     ensures exact { IfOk result (λ all. all.items ≡ tariffs.now) }
     ensures refusal { IfErr result (λ refusal. refusal ≡ Refusal.NoMemory) }
