@@ -1,4 +1,4 @@
--- What the next act tells of what was still to be told.
+-- What the next act returns of what was still to be returned.
 use Rattle.std.proofs.Common.{◌≡◌, inl, inr, ℕ, List, [], ◌∷◌, refl, ap, sym, ◌∙◌, subst, true, false, length, arith}
 use Rattle.std.specs.Prelude.{Option, Some, None, Ok}
 use Rattle.std.proofs.lemmas.Bool.{le-leb}
@@ -56,7 +56,7 @@ module _ (view : ForecastView) (outlook : Outlook) (is : Foretells view outlook)
   is_idle : choice is.account.bucket view.until ≡ None → expected ≡ (is.office, Ok NothingDue)
   is_idle none = act_idle view.until view.bucket is.office is.account is.there none
 
-  -- nothing is due where nothing is left
+  -- nothing is due if nothing is left
   pub nothing_left : (after : OfficeView) → DoesOnce expected is.office after (done NothingDue) → (outlook.replies ≡ []) × Foretells (then after) outlook
   nothing_left after (inr wanting) = let wants = wanting.0 in absurd cc
   nothing_left after (inl told) = by is.actions is.swept is.replies where

@@ -1,4 +1,4 @@
--- The lines that are read of the meters are those that are foretold.
+-- The lines that are read of the meters are those of the forecast.
 use Rattle.std.proofs.Common.{◌≡◌, ◌⊎◌, inl, inr, ℕ, ◌≤◌, List, [], ◌∷◌, refl, ap, sym, ◌∙◌, subst, true, false, map, flat_map, eqb, arith, length}
 use Rattle.std.proofs.lemmas.Option.{same_Some}
 use Rattle.std.specs.Prelude.{Option, Some, None, Err, ◌==◌}
@@ -50,7 +50,7 @@ later_than view outlook is = subst (λ (last : Option ℕ). is_not_before last v
 -- ---- the lines
 
 module _ (view : ForecastView) (outlook : Outlook) (is : Foretells view outlook) (none : outlook.replies ≡ []) where
-  -- where nothing is left the account is the last one
+  -- if nothing is left the account is the last one
   end_is : outlook.end ≡ is.account
   end_is = by is.actions is.swept is.replies where
     by : (actions : List Action) → IsSwept view.until actions is.account outlook.end → outlook.replies ≡ replies_of actions is.account → outlook.end ≡ is.account

@@ -101,7 +101,7 @@ module _ (t : ℕ) (name : List ℕ) (p : Office) (account : Account) (there : a
   does_action : (action : Action) → choice account.bucket t ≡ Some action → act t account ≡ Ok (effect action account, reply_to action)
   does_action action is = rw is refl
 
-  -- nothing is done where there is no choice
+  -- nothing is done if there is no choice
   pub act_idle : choice account.bucket t ≡ None → step_with t None (command.Act name) p ≡ (p, Ok NothingDue)
   act_idle none = step_plain t (command.Act name) p ∙ step_nothing t p name (command.Act name) refl account there account (does_nothing none) refl
 

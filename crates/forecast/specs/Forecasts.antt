@@ -1,4 +1,4 @@
--- What a configuration would do to a bucket, and charge, told of the plain office.
+-- What a configuration would do to a bucket, and charge, by the plain office.
 use Rattle.std.specs.Prelude.{◌≡◌, ℕ, true, List, [], ◌∷◌, Some, None, Result}
 use Rattle.office_base.specs.Maps.{at_name}
 use Rattle.rules_core.specs.Configurations.{Configuration}
@@ -34,16 +34,15 @@ replies_of (action ∷ actions) account =
     shown_action action (marker_made action.kind account.bucket) account.bucket
     ∷ replies_of actions (effect action account)
 
--- what is foretold: the replies to the acts, the bucket's records and books after them, and the lines of each month
+-- what is forecast: the replies to the acts, the bucket's records and books after them, and the lines of each month
 pub record Outlook : Type 0 where
   pub replies : List Reply
   pub end : Account
   pub lines : ℕ → List ForecastLine
 
--- the forecast: the configuration is set, all that has come by the second moment is done, each action at the moment at
--- which it stands, and every month is seen at the second moment and charged by its tariff (S3 User Guide, "Managing the
--- lifecycle of objects"; own: a closed month keeps the tariff of its closing, and in another one the tariff in force
--- counts)
+-- the forecast: the configuration is set, and each action that has come by the second moment is done at the moment at
+-- which it stands. Each month is seen at the second moment and charged by its tariff (S3 User Guide, "Managing the
+-- lifecycle of objects"; own: a closed month keeps the tariff of its closing, any other has the tariff in force in it)
 pub record IsForecast (asked : Proposal) (office : Office) (outlook : Outlook) : Type 0 where
   pub accepted : is_accepted (proposed asked office).1 ≡ true
   pub account : Account

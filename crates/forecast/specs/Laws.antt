@@ -15,18 +15,19 @@ pub record IsSameOutlook (one other : Outlook) : Type 0 where
   pub end : one.end ≡ other.end
   pub lines : (month : ℕ) → one.lines month ≡ other.lines month
 
--- what was proposed is done, with a token or without
+-- the entry that sets what was proposed, with a token or without
 abbrev pub setting : Proposal → Option (List ℕ) → Entry
 setting asked token = record { moment = asked.from; token = token; command = SetRules asked.bucket asked.rules }
 
--- it was done in the office before, and from then on nothing but acts was done to the bucket, by the second moment
+-- what was proposed was set in the office before, and from then on only acts were done to the bucket, by the second
+-- moment
 pub record IsLeftToActs (asked : Proposal) (before after : Office) : Type 0 where
   pub token : Option (List ℕ)
   pub later : List Entry
   pub runs : run_from (Some before) (setting asked token ∷ later) ≡ Some after
   pub acts : AllByRecursion (OnlyActs asked.bucket asked.until) later
 
--- where the bucket is then swept at the second moment, it has the records and the books of the forecast
+-- if the bucket is then swept at the second moment, it has the records and the books of the forecast
 abbrev pub ActsChangeNoForecast : Type 0
 ActsChangeNoForecast = (asked : Proposal) (before after : Office) (outlook : Outlook) (end : Account)
     → IsForecast asked before outlook → IsLeftToActs asked before after

@@ -1,4 +1,4 @@
--- What contracts see of a forecast in memory, and what it still tells.
+-- What contracts see of a forecast in memory, and what it still has to return.
 use Rattle.std.specs.Prelude.{◌≡◌, ℕ, ◌+◌, ◌≤◌, ◌<◌, true, List, [], ◌∷◌, length, Option, Some, None, Result, Ok, Err}
 use Rattle.office_base.specs.Maps.{at_name, at_number}
 use Rattle.office_base.specs.declared.failed.NoMemory.{NoMemory}
@@ -22,7 +22,7 @@ pub record ForecastView : Type 0 where
   pub first : ℕ
   pub until : ℕ
 
--- what is still to be told: the replies of what is left of the sweep, and then the lines; from the first month on no
+-- what is still to be returned: the replies of the rest of the sweep, and then the lines; from the first month on no
 -- month is closed
 pub record Foretells (view : ForecastView) (outlook : Outlook) : Type 0 where
   pub office : Office
@@ -37,24 +37,24 @@ pub record Foretells (view : ForecastView) (outlook : Outlook) : Type 0 where
   pub lines : (month : ℕ)
       → outlook.lines month ≡ book_lines (tariff_for month office) month view.until (book_of outlook.end.books)
 
--- something is still to be told, and the office may accept all acts that are left
+-- the forecast is not finished, and the office may accept all acts that are left
 pub record IsUnderWay (view : ForecastView) : Type 0 where
   pub outlook : Outlook
   pub foretells : Foretells view outlook
   pub room : view.office.records.accepted + length outlook.replies < most_commands
 
--- what is proposed has a forecast, and all of it is to be told
+-- what is proposed has a forecast, and all of it is still to be returned
 abbrev pub Begins : Proposal → Office → ForecastView → Type 0
 Begins asked office view = (outlook : Outlook) × IsForecast asked office outlook × Foretells view outlook
 
--- the answer is the next of the replies, or None where none is left; or memory is wanting, and all is still to be told
+-- the answer is the next of the replies, or None if none is left; or memory ran out, and all is still to be returned
 abbrev pub TellsNext : Outlook → ForecastView → Result (Option Reply) NoMemory → Type 0
 TellsNext outlook after (Ok None) = (outlook.replies ≡ []) × Foretells after outlook
 TellsNext outlook after (Ok (Some reply)) =
     (rest : List Reply) × (outlook.replies ≡ reply ∷ rest) × Foretells after (record outlook { replies = rest })
 TellsNext outlook after (Err wanting) = Foretells after outlook
 
--- no reply is left to be told
+-- no reply is left to be returned
 abbrev pub IsDone : ForecastView → Type 0
 IsDone view = (outlook : Outlook) → Foretells view outlook → outlook.replies ≡ []
 

@@ -110,7 +110,7 @@ impl Forecast {
         }
     }
 
-    /// Does the bucket's next lifecycle action that is due by the day, and gives its reply; None where none is left.
+    /// Does the bucket's next lifecycle action that is due by the day, and returns its reply; `None` if none is left.
     ///
     /// Cost: an `Act`, which takes the first of the bucket's queue of next actions.
     ///
@@ -131,9 +131,9 @@ impl Forecast {
         Ok(None)
     }
 
-    /// Lists what the bucket would use in a month, cut at the day, and what that would cost: by class from the warmest,
-    /// and in it what is stored, what leaves too early, and the transitions. The month is not before that in which the
-    /// configuration is set, and `next` gave None.
+    /// Lists what the bucket would use in a month, cut at the day, and what that would cost. The lines are by class
+    /// from the warmest; in a class, what is stored, what leaves too early, and the transitions. The month is not
+    /// before the one in which the configuration is set, and `next` has returned `None`.
     ///
     /// Cost: six readings of the meters, and a copy of the tariffs.
     ///
@@ -151,7 +151,7 @@ impl Forecast {
         Ok(lines)
     }
 
-    /// Gives the tariff in force in a month.
+    /// Returns the tariff in force in a month.
     fn tariff_in(&self, month: Month) -> Result<Option<Tariff>, NoMemory>
         ensures { IfOk result (λ tariff. (p : plain.Office) → StandsFor self.now.office p
             → tariff ≡ in_force month p.tariffs) }
@@ -210,14 +210,14 @@ fn set_rules(
     }
 }
 
-/// Tells whether memory is wanting.
+/// Reports whether the refusal is that memory ran out.
 fn is_wanting(refusal: &Refusal) -> bool
     ensures { result ≡ is_wanting refusal.now }
 {
     matches!(refusal, Refusal::NoMemory)
 }
 
-/// Gives the fault of what the office refused.
+/// Returns the fault that a refusal of the office becomes.
 fn fault_of(refusal: Refusal) -> ForecastFault
     ensures { result ≡ fault_of refusal }
 {
@@ -228,7 +228,7 @@ fn fault_of(refusal: Refusal) -> ForecastFault
     }
 }
 
-/// Gives an act on the bucket.
+/// Returns an act on the bucket.
 fn act_on(bucket: &BucketName) -> Result<Command, NoMemory>
     ensures { IfOk result (λ asked. asked ≡ Command.Act bucket.now) }
 {
@@ -238,7 +238,7 @@ fn act_on(bucket: &BucketName) -> Result<Command, NoMemory>
     }
 }
 
-/// Tells whether this is the reply to an action that was done: every one but that nothing is due.
+/// Reports whether this is the reply to an action that was done: each reply is, except `NothingDue`.
 fn is_done(reply: &Reply) -> bool
     ensures { result ≡ is_accepted (Ok reply.now) }
 {

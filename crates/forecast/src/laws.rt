@@ -4,9 +4,9 @@ ghost use Rattle.plain_office.specs.Office.{Office};
 ghost use Rattle.forecast.specs.Forecasts.{Proposal, Outlook, IsForecast};
 ghost use Rattle.forecast.specs.Laws.{IsSameOutlook, ActsChangeNoForecast};
 
-/// States that a forecast comes true: where the configuration is set in the office at the moment of the forecast, and
-/// nothing but acts is done to the bucket until it is swept at the other moment, its records and books are then those
-/// of the forecast, whatever acts were done in between; and so are its meters, early quantities and moves.
+/// States that a forecast comes true. The configuration is set in the office at the moment of the forecast, nothing but
+/// acts is done to the bucket, and it is swept at the other moment. Then its records and books are those of the
+/// forecast, whatever acts were done in between; and so are its meters, early quantities and moves.
 ///
 /// Rule: S3 User Guide, "Managing the lifecycle of objects".
 pub fn acts_in_between_change_no_forecast()

@@ -17,7 +17,7 @@ pub struct ForecastLine {
     pub class: Class,
     /// Byte-milliseconds, or a number of transitions; never 0.
     pub quantity: u128,
-    /// Whole units; None where no tariff is in force in the month.
+    /// Whole units; `None` if no tariff is in force in the month.
     pub charge: Option<u128>,
 }
 
@@ -96,7 +96,7 @@ fn transitions(class: Class, moves: u64, tariff: &Option<Tariff>) -> ForecastLin
     }
 }
 
-/// Adds a line, where its quantity is not 0.
+/// Adds a line, if its quantity is not 0.
 fn push_line(lines: &mut Vec<ForecastLine>, line: ForecastLine) -> Result<(), NoMemory>
     ensures { OnOk result (lines.new.items ≡ lines.old.items ++ filter has_quantity (line ∷ [])) }
 {
