@@ -1,4 +1,4 @@
--- What stands in a journal file while an entry is added.
+-- What a journal file has while an entry is added.
 use Rattle.std.proofs.Common.{◌≡◌, ◌⊎◌, inl, inr, ℕ, zero, suc, replicate, ◌+◌, ◌*◌, ◌^◌, ◌<◌, ◌≤◌, List, [], ◌∷◌, ◌++◌, length, get_or, take, drop, refl, sym, ◌∙◌, ap}
 use Rattle.std.proofs.Common.{subst, arith, append-nil, append_assoc, length-append, take-append-drop, Result, Ok, Err}
 use Rattle.std.specs.Prelude.{OnOk}
@@ -110,7 +110,7 @@ module _ (head : List ℕ) (entries : List Entry) (p : ℕ) (size : p ≡ length
         small = inr (omega (arith, room, length_more));
       }
 
-      -- a file with a frame behind any gate has its entry or not
+      -- a file with a frame after any gate has its entry or not
       pub gate_tells : (g : ℕ) (rest image : List ℕ) → image ≡ journal_bytes head entries ++ g ∷ (framed bytes ++ 0 ∷ rest) → HasEntries head entries image
           ⊎ HasEntries head (entries ++ entry ∷ []) image
       gate_tells g rest image parts = elim (cases_eq g 0xA5) [
@@ -169,7 +169,7 @@ module _ {head : List ℕ} {entries : List Entry} {p : ℕ} {first : State} (at_
     slot1 = keeps.slot1;
   }
 
-  -- text are the bytes of the entry, and fill is what was written behind the closed gate
+  -- text are the bytes of the entry, and fill is what was written after the closed gate
   module _ (text fill : List ℕ) where
     abbrev behind_fill : List ℕ
     behind_fill = drop (length (framed text ++ 0 ∷ fill)) at_rest.history.rest
@@ -177,7 +177,7 @@ module _ {head : List ℕ} {entries : List Entry} {p : ℕ} {first : State} (at_
     abbrev tail : List ℕ
     tail = fill ++ behind_fill
 
-    -- the file with the frame behind the closed gate
+    -- the file with the frame after the closed gate
     abbrev pub with_frame : List ℕ
     with_frame = put (p + 1) (framed text ++ 0 ∷ fill) bytes
 

@@ -1,4 +1,4 @@
--- Reading gives the entries that stand in the file.
+-- Reading returns the entries that the file has.
 use Rattle.std.proofs.Common.{subst, inl, inr, ⊎_elim, ◌<◌, ◌≡◌, ◌≢◌, ℕ, ◌+◌, ◌^◌, ◌≤◌, Bool, true, false, cond, eqb, ltb, ◌||◌, List, [], ◌∷◌, ◌++◌, length, get_or}
 use Rattle.std.proofs.Common.{take, drop, Option, Some, None, Result, Ok, Err, refl, sym, ap, ◌∙◌, append_assoc, take-append-drop, arith}
 use Rattle.std.specs.Prelude.{nat_le}
@@ -90,7 +90,7 @@ whole_body gate file e next is =
     let b = not_ended (eqb (get_or file gate 0) 0xA5) (body_at gate file) e next a.1 in
     (eqb-true _ _ b.0, body_is gate file e next b.1)
 
--- it ends behind its gate, within the file and within 2^45 bytes
+-- it ends after its gate, within the file and within 2^45 bytes
 pub frame_next : (gate : ℕ) (file : List ℕ) (e : Entry) (next : ℕ) → frame_at gate file ≡ Whole e next
     → (gate < next) × (next < length file) × (next ≤ 2 ^ 45)
 frame_next gate file e next is =
@@ -189,7 +189,7 @@ module _ {head : List ℕ} {entries : List Entry} {gate : ℕ} {file : List ℕ}
       let small : IsBytes file = subst (λ (l : List ℕ). (i : ℕ) → get_or l i 0 < 256) (ap (λ (f : File). f.seen) on_disk) bytes in
       prefix_more head entries gate file e next small prefix whole_frame
 
-  -- behind the last entry
+  -- after the last entry
   pub read_end : (new : State) (next : ℕ) (o : Option Entry) → new ≡ mid → o ≡ None
       → NextGives (Ok o) gate next (frame_at gate mid.journal.seen) → IsAtRest head new next entries
   read_end new next o still is gives =

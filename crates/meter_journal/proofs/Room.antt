@@ -48,7 +48,7 @@ module _ {D : Type 0} {d : disks.Ghosts D} {old mid new : D} {n : ℕ} (so_far :
       → OnErr result (Unsynced Journal (d.state mid) (d.state new)) → KeepsTo d old new (IsNoLonger n)
   synced_within result ok err = goes_on so_far time (after_sync n (d.state mid) (d.state new) own so_far.now result ok err)
 
--- the end of a frame, and of the zeros behind it
+-- the end of a frame, and of the zeros after it
 pub ends_within : (gate size limit n : ℕ) → gate + 6 + size ≤ limit → min limit (gate + 6 + size + 4095) ≤ n → gate + 6 + size ≤ n
 ends_within gate size limit n fits le = omega (arith, fits, le)
 

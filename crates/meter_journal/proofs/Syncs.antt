@@ -4,7 +4,7 @@ use Rattle.std.specs.Prelude.{OnOk, OnErr}
 use Rattle.disk_core.specs.declared.disk.FileNo.TheVariants.{Journal}
 use Rattle.disk_core.specs.Tallies.{Tally, IsWritten, IsSynced, EndsSynced, IsDurable}
 
--- the journal alone was asked
+-- only the journal was called
 pub record AsksJournal (old new : Tally) : Type 0 where
   pub syncs : old.syncs ≤ new.syncs
   pub slot0 : new.slot0 ≡ old.slot0

@@ -1,4 +1,4 @@
--- What a file holds behind a head is one list of entries, and reading gives it.
+-- After a head a file has one list of entries, and reading returns it.
 use Rattle.std.proofs.Common.{◌≡◌, ◌≢◌, ◌⊎◌, inl, inr, ⊎_elim, ℕ, ◌+◌, ◌^◌, ◌<◌, ◌≤◌, eqb, ltb, false, List, [], ◌∷◌, ◌++◌, length, get_or, take, drop, refl, sym, ◌∙◌}
 use Rattle.std.proofs.Common.{ap, subst, append_assoc, length-append, Ok, arith}
 use Rattle.std.specs.Prelude.{nat_le}
@@ -37,7 +37,7 @@ apart a b x y small_a small_b is =
 first_of_list : (x y : ℕ) (xs ys : List ℕ) → x ∷ xs ≡ y ∷ ys → x ≡ y
 first_of_list x y xs ys is = ap (λ (l : List ℕ). get_or l 0 0) is
 
--- what stands behind a front: a closed gate and no entry more, or the next entry and what follows it
+-- what stands after a front: a closed gate and no entry more, or the next entry and what follows it
 abbrev Behind : (front entries : List Entry) (d : List ℕ) (g : ℕ) (rest : List ℕ) → Type 0
 Behind front entries d g rest = ((front ≡ entries) × (d ≡ g ∷ rest))
     ⊎ ((e : Entry) × (more : List Entry) × (entries ≡ front ++ e ∷ more) × EntryFits e × (d ≡ 0xA5 ∷ (framed (spelling e) ++ (Frames more ++ g ∷ rest))))
@@ -59,7 +59,7 @@ behind (f ∷ front) (e ∷ entries) d g rest all each shut is =
     let later : Behind (f ∷ front) (f ∷ entries) d g rest = behind_more f front entries d g rest (behind front entries d g rest all.1 each.1 shut both.1) in
     subst (λ (x : Entry). Behind (f ∷ front) (x ∷ entries) d g rest) same later
 
--- behind one head
+-- after one head
 behind_head : (head : List ℕ) (front entries : List Entry) (d file : List ℕ) (has : HasEntries head entries file)
     → AllByRecursion EntryFits front → file ≡ journal_bytes head front ++ d → Behind front entries d has.gate has.rest
 unfolding journal_bytes
@@ -92,7 +92,7 @@ ended_is gate g file rest is shut =
     let closed : eqb (get_or file gate 0) 0xA5 ≡ false = ne_eqb (get_or file gate 0) 0xA5 (λ same. shut (sym (byte_is gate g file rest is) ∙ same)) in
     rw (long, closed) refl
 
--- the frame of an entry stands behind an open gate, with something behind it, in bounds
+-- the frame of an entry stands after an open gate, with something after it, in bounds
 record Stands (gate : ℕ) (file : List ℕ) (e : Entry) (tail : List ℕ) : Type 0 where
   fits : EntryFits e
   parts : drop gate file ≡ 0xA5 ∷ (framed (spelling e) ++ tail)

@@ -1,5 +1,5 @@
--- What a journal file stands for: a list of entries, each behind an open gate. A gate is one byte, which commits what
--- stands behind it: it is open where it is A5, and closed where it is any other.
+-- What a journal file stands for: a list of entries, each after an open gate. A gate is one byte, which commits what
+-- follows it: A5 is open, any other byte is closed.
 use Rattle.std.specs.Prelude.{◌≡◌, ◌≢◌, ◌⊎◌, ℕ, ◌+◌, ◌^◌, ◌≤◌, List, [], ◌∷◌, ◌++◌, length}
 use Rattle.std.specs.List.{flat_map, AllByRecursion, Contains}
 use Rattle.std.specs.Int.{w32, to_be_bytes}
@@ -11,7 +11,7 @@ use Rattle.disk_core.specs.Files.{State, IsImage, synced_file}
 abbrev pub mark : List ℕ
 mark = 0x4D ∷ 0x45 ∷ 0x54 ∷ 0x45 ∷ 0x52 ∷ 0x4A ∷ 0x52 ∷ 0x4E ∷ 0x31 ∷ []
 
--- what stands before the first gate: the open gate of the file, and its mark
+-- what comes before the first gate: the open gate of the file, and its mark
 abbrev pub header : List ℕ
 header = 0xA5 ∷ mark
 
@@ -19,16 +19,16 @@ header = 0xA5 ∷ mark
 abbrev pub framed : List ℕ → List ℕ
 framed bytes = to_be_bytes w32 (length bytes) ++ bytes
 
--- what stands before the first gate, and then these entries, each behind an open gate
+-- the head, and then these entries, each after an open gate
 unfoldable pub journal_bytes : List ℕ → List Entry → List ℕ
 journal_bytes head entries = head ++ flat_map (λ e. 0xA5 ∷ framed (spelling e)) entries
 
--- the place of the gate behind these entries
+-- the place of the gate after these entries
 abbrev pub end_gate : List ℕ → List Entry → ℕ
 end_gate head entries = length (journal_bytes head entries)
 
--- behind this head a file holds these entries, up to the first gate that is not open;
--- a frame ends in bounds with the gate behind it
+-- after this head a file has these entries, up to the first gate that is not open; a frame ends within bounds, with the
+-- gate after it
 pub record HasEntries (head : List ℕ) (entries : List Entry) (file : List ℕ) : Type 0 where
   pub gate : ℕ
   pub rest : List ℕ
@@ -37,12 +37,12 @@ pub record HasEntries (head : List ℕ) (entries : List Entry) (file : List ℕ)
   pub each : AllByRecursion EntryFits entries
   pub small : (entries ≡ []) ⊎ (end_gate head entries + 1 ≤ 2 ^ 45)
 
--- a made file holds these entries
+-- a file that is made has these entries
 abbrev pub HasHistory : List Entry → List ℕ → Type 0
 HasHistory entries file = HasEntries header entries file
 
--- the journal file is its only image, with these entries and its end gate there; what stands in its head is not
--- looked at
+-- the journal file is its only image and has these entries, and its end gate is at this place; the bytes of its head
+-- are not looked at
 pub record IsAtRest (head : List ℕ) (s : State) (gate : ℕ) (entries : List Entry) : Type 0 where
   pub bytes : List ℕ
   pub on_disk : s.journal ≡ synced_file bytes

@@ -14,7 +14,7 @@ use Rattle.meter_journal.specs.History.{mark, journal_bytes, end_gate}
 abbrev pub IsNotMade : List ℕ → Type 0
 IsNotMade file = (length file < 11) ⊎ ((length file ≡ 11) × (get_or file 0 0 ≢ 0xA5))
 
--- the file has an open gate at its head, the mark, and a gate behind it
+-- the file has an open gate at its head, the mark, and a gate after it
 abbrev pub IsMade : List ℕ → Type 0
 IsMade file = (11 ≤ length file) × (get_or file 0 0 ≡ 0xA5) × (take 9 (drop 1 file) ≡ mark)
 
@@ -32,7 +32,7 @@ HeadGives (Err faults.StoreFault) file = Unit {0}
 HeadGives (Err (faults.Damaged at)) file = ⊥
 HeadGives (Err faults.NoMemory) file = ⊥
 
--- what creating answers where it fails
+-- what creating answers if it fails
 abbrev pub CreateFails : OpenFault → List ℕ → Type 0
 CreateFails faults.NotMade file = ⊥
 CreateFails faults.Foreign file = IsForeign file
@@ -45,26 +45,27 @@ abbrev pub from_or_first : Option ℕ → ℕ
 from_or_first (Some place) = place
 from_or_first None = 10
 
--- what stands at a gate: the end, an entry and the place of the next gate, or a damaged frame
+-- what is at a gate: the end, an entry and the place of the next gate, or a damaged frame
 pub data Frame : Type 0 where
   Ended : Frame
   Whole : Entry → ℕ → Frame
   Broken : Frame
 
--- a frame by what its bytes are read as, with the place of the next gate: damaged where they are no entry
+-- a frame by what its bytes are read as, with the place of the next gate; damaged if they are not an entry
 abbrev pub entry_frame : ℕ → Result Entry ℕ → Frame
 entry_frame next (Ok e) = Whole e next
 entry_frame next (Err at) = Broken
 
--- the n bytes behind the length, as an entry
+-- the n bytes after the length, as an entry
 abbrev pub entry_frame_at : ℕ → ℕ → List ℕ → Frame
 entry_frame_at gate n file = entry_frame (gate + 5 + n) (entry_of (take n (drop (gate + 5) file)))
 
--- the length behind the gate
+-- the length after the gate
 abbrev pub size_at : ℕ → List ℕ → ℕ
 size_at gate file = from_be_bytes w32 (take 4 (drop (gate + 1) file))
 
--- the frame behind an open gate: it ends within the file and within 2^45 bytes, with the gate behind it
+-- the frame after an open gate: it ends within the file and within 2^45 bytes, with the gate after it; else it is
+-- damaged
 unfoldable pub body_at : ℕ → List ℕ → Frame
 body_at gate file =
     if nat_lt (length file) (gate + 5) then Broken
@@ -72,13 +73,13 @@ body_at gate file =
     then Broken
     else entry_frame_at gate (size_at gate file) file)
 
--- what stands at the gate at this place; past the end of the file stands nothing
+-- what is at the gate at this place; damaged if the place is not within the file
 unfoldable pub frame_at : ℕ → List ℕ → Frame
 frame_at gate file =
     if nat_le (length file) gate then Broken
     else (if get_or file gate 0 == 0xA5 then body_at gate file else Ended)
 
--- what a function that reads at a gate answers where it fails
+-- what a function that reads at a gate answers if it fails
 abbrev pub FrameFails : OpenFault → ℕ → Frame → Type 0
 FrameFails faults.NoMemory gate frame = Unit {0}
 FrameFails faults.StoreFault gate frame = Unit {0}
@@ -86,7 +87,7 @@ FrameFails (faults.Damaged at) gate frame = (at ≡ gate) × (frame ≡ Broken)
 FrameFails faults.NotMade gate frame = ⊥
 FrameFails faults.Foreign gate frame = ⊥
 
--- what a function that reads behind an open gate answers
+-- what a function that reads after an open gate answers
 abbrev pub BodyGives : Result (Entry × ℕ) OpenFault → ℕ → Frame → Type 0
 BodyGives (Ok x) gate frame = frame ≡ Whole x.0 x.1
 BodyGives (Err e) gate frame = FrameFails e gate frame
@@ -103,27 +104,27 @@ NextGives (Ok (Some e)) old new frame = frame ≡ Whole e new
 NextGives (Ok None) old new frame = (new ≡ old) × (frame ≡ Ended)
 NextGives (Err e) old new frame = (new ≡ old) × FrameFails e old frame
 
--- what reading the next entry answers on every disk: an entry in range, whose frame is passed over; else the place
--- stays
+-- what reading the next entry answers on every disk: an entry in range, and the next gate is after its frame; else the
+-- place stays
 abbrev pub Advances : Result (Option Entry) OpenFault → ℕ → ℕ → Type 0
 Advances (Ok (Some e)) old new = EntryFits e × (new ≡ old + 5 + length (spelling e))
 Advances (Ok None) old new = new ≡ old
 Advances (Err e) old new = new ≡ old
 
--- a count of faults never falls; where StoreFault comes it rose, and where anything else comes it stands still
+-- a count of faults never falls; with StoreFault it rose, and with any other answer it is as before
 pub record HasStoreCause {T : Type 0} (before now : ℕ) (result : Result T OpenFault) : Type 0 where
   pub later : before ≤ now
   pub failed : IsErrOf result faults.StoreFault → Rose before now
   pub quiet : (IsErrOf result faults.StoreFault → ⊥) → now ≡ before
 
--- behind this head these entries stand in the file before the gate at this place
+-- after this head the file has these entries, up to the gate at this place
 pub record HasPrefix (head : List ℕ) (entries : List Entry) (gate : ℕ) (file : List ℕ) : Type 0 where
   pub parts : file ≡ journal_bytes head entries ++ drop gate file
   pub size : gate ≡ end_gate head entries
   pub each : AllByRecursion EntryFits entries
   pub small : (entries ≡ []) ⊎ (gate + 1 ≤ 2 ^ 45)
 
--- what stands at the gate behind the first of these entries: the end behind all of them, or the next one
+-- what is at the gate after the first of these entries: the end after all of them, or else the next one
 abbrev pub HasNextAt : List Entry → List Entry → ℕ → List ℕ → Type 0
 HasNextAt front entries gate file =
     ((front ≡ entries) × (frame_at gate file ≡ Ended))

@@ -12,7 +12,7 @@ use entry_codec::{EntryFault, decode};
 use office_types::Entry;
 use std::alloc::Global;
 
-/// Tells whether these are the bytes of a made journal file. Takes no memory.
+/// Reports whether these are the bytes of a made journal file. Takes no memory.
 ///
 /// # Errors
 ///
@@ -30,7 +30,7 @@ pub fn made(bytes: &[u8]) -> Result<(), OpenFault>
     judge(&front, bytes.len() as u64)
 }
 
-// The entry that these bytes behind a gate spell, and the place of the next gate.
+// The entry that these bytes after a gate spell, and the place of the next gate.
 pub(crate) fn entry_in(alloc: Global, gate: u64, bytes: &[u8]) -> Result<(Entry, u64), OpenFault>
     requires { gate + 5 + length bytes.now < 2 ^ 64 }
     ensures exact { BodyGives result gate (entry_frame (gate + 5 + length bytes.now) (entry_of bytes.now)) }
@@ -45,7 +45,7 @@ pub(crate) fn entry_in(alloc: Global, gate: u64, bytes: &[u8]) -> Result<(Entry,
     }
 }
 
-// The length that stands behind a gate.
+// The length after a gate.
 fn size_in(bytes: &[u8], gate: usize) -> usize
     requires { gate + 5 ≤ length bytes.now }
     ensures size { result ≡ size_at gate bytes.now }
@@ -77,14 +77,14 @@ fn body_in(alloc: Global, bytes: &[u8], gate: usize) -> Result<(Entry, u64), Ope
     entry_in(alloc, offset, &rest[..size])
 }
 
-/// Reads the frame at a gate: the entry with the place of the next gate, or `None` where the gate is not open.
+/// Reads the frame at a gate: the entry with the place of the next gate, or `None` if the gate is not open.
 ///
-/// `gate` is in bytes from the start. Takes memory for the entry alone.
+/// `gate` is in bytes from the start. Takes memory only for the entry.
 ///
 /// # Errors
 ///
-/// `Damaged` at the gate: it lies past the end; or it is open and the frame's length, its entry or the next gate
-/// ends past the end or past 2^45 bytes, or the frame holds no entry. `NoMemory`: memory for the entry ran out.
+/// `Damaged` at the gate: the gate is past the end; or it is open, and the frame's length, its entry or the next gate
+/// ends past the end or past 2^45 bytes, or the frame has no entry. `NoMemory`: memory for the entry ran out.
 #[tactic(auto, unfolding(crate::specs::Reading::frame_at))]
 pub fn frame(alloc: Global, bytes: &[u8], gate: u64) -> Result<Option<(Entry, u64)>, OpenFault>
     ensures exact { FrameGives result gate (frame_at gate bytes.now) }

@@ -5,14 +5,14 @@
 pub enum OpenFault {
     /// The file is shorter than 11 bytes, or has 11 bytes and a closed gate at its head.
     NotMade,
-    /// The file is longer and has no open gate at its head, or has another mark behind it.
+    /// The file is longer and has no open gate at its head, or has another mark after it.
     Foreign,
-    /// The frame at a gate is damaged, and none before it is.
+    /// The frame at a gate is damaged; no frame before it is.
     Damaged {
         /// The place of the gate, in bytes from the start of the file.
         offset: u64,
     },
-    /// The disk did not do a call.
+    /// A call of the disk failed.
     StoreFault,
     /// Memory ran out.
     NoMemory,

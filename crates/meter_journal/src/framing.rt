@@ -1,4 +1,4 @@
-// The frame of an entry, behind a gate that is not open.
+// The frame of an entry, after a gate that is not open.
 ghost use Rattle.std.specs.Prelude.{◌≡◌, ◌⊎◌, ◌+◌, ◌%◌, ◌<◌, ◌≤◌, ◌^◌, ◌++◌, ◌∷◌, ℕ, List, IsTrue, length};
 ghost use Rattle.std.specs.Prelude.{replicate, min, OnOk};
 ghost use Rattle.std.specs.Int.{w32, to_be_bytes};
@@ -11,7 +11,7 @@ ghost use Rattle.disk_core.specs.Tallies.{EndsSynced};
 
 use disk_core::{Disk, Failed, FileNo};
 
-// As many as a block of a disk has at most.
+// As many zeros as the largest block of a disk has bytes.
 const ZEROS: [u8; 4_096] = [0; 4_096];
 
 fn zeros() -> &'static [u8]
@@ -20,8 +20,8 @@ fn zeros() -> &'static [u8]
     &ZEROS
 }
 
-// What ends the frame behind this gate, from the place of its end gate on: a closed gate, and zeros up to the end of
-// the block there where that is another one than that of the gate, but not past the limit.
+// What ends the frame after this gate, from the place of its end gate on: a closed gate. If that is in another block
+// than the gate, zeros follow up to the end of its block, but not past the limit.
 fn ending(block: u64, gate: u64, end: u64, limit: u64) -> &'static [u8]
     requires block { block ≤ 4096 }
     requires end { end < 2 ^ 47 }
@@ -41,8 +41,9 @@ fn ending(block: u64, gate: u64, end: u64, limit: u64) -> &'static [u8]
     &zeros[..rest as usize]
 }
 
-// Writes the length, the entry and a closed gate behind the gate at this place, and syncs them. Where the frame goes on
-// into a new block of the disk, zeros are written up to its end, so that the next syncs need not write a new length.
+// Writes the length, the entry and a closed gate after the gate at this place, and syncs them. If the frame goes on
+// into a new block of the disk, zeros are written up to the end of that block. So the next syncs need not write a new
+// length.
 pub(crate) fn write_frame<D: Disk>(
     disk: &mut D,
     gate: u64,
@@ -61,7 +62,7 @@ pub(crate) fn write_frame<D: Disk>(
         ≡ synced_file (put (gate + 1) (to_be_bytes w32 (length entry.now) ++ entry.now ++ 0 ∷ replicate n 0)
         (D.state disk.old).journal.seen))) }
 
-    // The zeros go to the end of a block at most, and not past the limit.
+    // The zeros go at most to the end of a block, and not past the limit.
     ensures room { IsTrue D.honest → (n : ℕ) → gate + 6 + length entry.now ≤ limit
         → min limit (gate + 6 + length entry.now + 4095) ≤ n → IsNoLonger n (D.state disk.old)
         → KeepsTo D.Disk disk.old disk.new (IsNoLonger n) }

@@ -14,10 +14,10 @@ use crate::gate::OPEN;
 use disk_core::{Disk, Failed, FileNo};
 use std::alloc::Global;
 
-// The mark behind the gate at the head, the text METERJRN1.
+// The mark after the gate at the head, the text METERJRN1.
 const MARK: [u8; 9] = [0x4D, 0x45, 0x54, 0x45, 0x52, 0x4A, 0x52, 0x4E, 0x31];
 
-// What the first ten bytes of a file of this length say.
+// Judges a file of this length by its first ten bytes.
 #[tactic(auto, using(crate::proofs::Heads::mark_in))]
 pub(crate) fn judge(front: &[u8; 10], end: u64) -> Result<(), OpenFault>
     requires { 11 ≤ end }
@@ -70,7 +70,7 @@ fn check_head<D: Disk>(disk: &mut D, end: u64) -> Result<(), OpenFault>
     judge(&room, end)
 }
 
-// Syncs the journal file, and reads its length where it is made.
+// Syncs the journal file, and returns its length if it is made.
 pub(crate) fn look<D: Disk>(disk: &mut D) -> Result<u64, OpenFault>
     ensures exact { IsTrue D.tells → HeadGives result (D.state disk.old).journal.seen }
     ensures size { IsTrue D.tells → IfOk result (λ n. n ≡ length (D.state disk.old).journal.seen) }
@@ -101,7 +101,7 @@ pub(crate) fn look<D: Disk>(disk: &mut D) -> Result<u64, OpenFault>
 ///
 /// # Errors
 ///
-/// `StoreFault`: the disk did not do a call. `NoMemory`: memory for the bytes ran out. The files are as they were.
+/// `StoreFault`: a call of the disk failed. `NoMemory`: memory for the bytes ran out. The files are as they were.
 pub fn read_all<D: Disk>(alloc: Global, disk: &mut D) -> Result<Vec<u8>, OpenFault>
     ensures bytes { IsTrue D.tells → IfOk result (λ bytes. bytes.items ≡ (D.state disk.old).journal.seen) }
     ensures err { IfErr result (λ e. (e ≡ StoreFault) ⊎ (e ≡ NoMemory)) }

@@ -1,4 +1,4 @@
-// A journal, which is read and to which entries are added.
+// A journal, from which entries are read and to which they are added.
 ghost use Rattle.std.specs.Prelude.{◌≡◌, ◌+◌, ◌<◌, ◌≤◌, ◌^◌, ◌++◌, [], ◌∷◌, List, ℕ, IsTrue, length, OnOk, IfOk};
 ghost use Rattle.std.specs.Prelude.{IfErr, IfSome, Err, IsErrOf, ◌↔◌, min};
 ghost use Rattle.std.specs.Borrow.{follows, sem};
@@ -30,7 +30,7 @@ use std::marker::Model;
 pub enum AppendFault {
     /// The file would be longer than the limit.
     JournalFull,
-    /// The disk did not do a call.
+    /// A call of the disk failed.
     StoreFault,
 }
 
@@ -84,7 +84,7 @@ fn commit<D: Disk>(disk: &mut D, gate: u64, entry: &[u8], limit: u64) -> Result<
 impl<D: Disk> Journal<D> {
     /// Takes a disk whose journal was not read yet. `limit` is in bytes.
     ///
-    /// The journal has to be opened before an entry is read or added.
+    /// The journal must be opened before an entry is read or added.
     pub fn over(disk: D, limit: u64) -> Journal<D>
         requires { limit ≤ 2 ^ 45 }
         ensures { (result.disk ≡ disk) × (result.gate ≡ 10) × (result.limit ≡ limit) }
@@ -96,18 +96,18 @@ impl<D: Disk> Journal<D> {
         }
     }
 
-    /// Opens the journal, to be read from its first gate or from this place, and answers the length of its file in
+    /// Opens the journal, to be read from its first gate or from this place, and returns the length of its file in
     /// bytes.
     ///
-    /// The file is synced and its head is read; nothing is written, so its images are among those from before. It
-    /// may be called again at any time, as after a fault of the disk. `from` is in bytes from the start of the file,
-    /// and a gate that was read before.
+    /// The file is synced and its head is read. Nothing is written, so its images are among those from before. It may
+    /// be called again at any time, for example after a fault of the disk. `from` is in bytes from the start of the
+    /// file, and is a gate that was read before.
     ///
     /// # Errors
     ///
-    /// The journal has to be opened again. `StoreFault`: the disk did not do a call. `NotMade`: the file is shorter
-    /// than 11 bytes, or has 11 bytes and a closed gate at its head. `Foreign`: it is longer and has no open gate at
-    /// its head, or has another mark.
+    /// After an error the journal must be opened again. `StoreFault`: a call of the disk failed. `NotMade`: the file is
+    /// shorter than 11 bytes, or has 11 bytes and a closed gate at its head. `Foreign`: it is longer and has no open
+    /// gate at its head, or has another mark.
     pub fn open(&mut self, from: Option<u64>) -> Result<u64, OpenFault>
         requires from { IfSome from (λ place. 10 ≤ place) }
 
@@ -126,7 +126,7 @@ impl<D: Disk> Journal<D> {
         ensures any_moment { IsTrue D.honest → KeepsTo D.Disk self.old.disk self.new.disk
             (Narrower (D.state self.old.disk)) }
 
-        // Where no call of the disk failed, its files read as before. On every disk nothing is written.
+        // If no call of the disk failed, its files read as before. On every disk nothing is written.
         ensures reads { IsTrue D.tells → (IsErrOf result OpenFault.StoreFault → ⊥)
             → SameReads (D.state self.old.disk) (D.state self.new.disk) }
         ensures writes { WritesNothing D.Disk self.old.disk self.new.disk }
@@ -143,18 +143,18 @@ impl<D: Disk> Journal<D> {
         }
     }
 
-    /// Reads the entry at the gate, or answers `None` where the gate is not open.
+    /// Reads the entry at the gate, or returns `None` if the gate is not open.
     ///
-    /// `end` is the length of the file in bytes, as `open` answered it. After an entry the next call reads at the
-    /// gate behind it; after `None` an entry can be added. Nothing is written.
-    /// Cost: memory for the frame, once it is known that the file holds it, at most `entry_codec::ENTRY_LIMIT` bytes
-    /// whatever it claims, and for its entry.
+    /// `end` is the length of the file in bytes, as `open` returned it. After an entry the next call reads at the gate
+    /// after it; after `None` an entry can be added. Nothing is written. Cost: memory for the frame, once it is known
+    /// that the file has it, and for its entry. That is at most `entry_codec::ENTRY_LIMIT` bytes for the frame,
+    /// whatever length it claims.
     ///
     /// # Errors
     ///
-    /// The next call then reads at the same gate again. `Damaged` at the gate: it lies past the end of the file; or
-    /// it is open and the frame's length, its entry or the next gate ends past the end or past 2^45 bytes, or the
-    /// frame holds no entry. `StoreFault`: the disk did not do a call. `NoMemory`: memory for the entry ran out.
+    /// The next call then reads at the same gate again. `Damaged` at the gate: the gate is past the end of the file; or
+    /// it is open, and the frame's length, its entry or the next gate ends past the end or past 2^45 bytes, or the
+    /// frame has no entry. `StoreFault`: a call of the disk failed. `NoMemory`: memory for the entry ran out.
     pub fn next(&mut self, alloc: Global, end: u64) -> Result<Option<Entry>, OpenFault>
         requires known { IsTrue D.tells → end ≡ length (D.state self.old.disk).journal.seen }
         ensures exact { IsTrue D.tells → NextGives result self.old.gate self.new.gate
@@ -163,7 +163,7 @@ impl<D: Disk> Journal<D> {
         ensures cause { HasStoreCause (D.fault_count self.old.disk) (D.fault_count self.new.disk) result }
         ensures rises { IfOk result (λ read. IfSome read (λ e. (self.old.gate < self.new.gate)
             × (self.new.gate ≤ 2 ^ 45))) }
-        // Memory is wanting only for a frame that claims no more than an entry may have.
+        // Memory runs out only for a frame that claims no more bytes than an entry may have.
         ensures memory { IsTrue D.tells → IsErrOf result OpenFault.NoMemory
             → size_at self.old.gate (D.state self.old.disk).journal.seen ≤ entry_limit }
         // On every disk: what is read is an entry in range, and its frame is passed over.
@@ -180,26 +180,26 @@ impl<D: Disk> Journal<D> {
         }
     }
 
-    /// Tells whether an entry of this size is within the limit. `size` is in bytes.
+    /// Reports whether an entry of this size is within the limit. `size` is in bytes.
     pub fn fits(&self, size: u64) -> bool
         ensures { IsTrue result ↔ (self.now.gate + 6 + size ≤ self.now.limit) }
     {
         self.gate.saturating_add(size).saturating_add(6) <= self.limit
     }
 
-    /// Adds an entry, given by its bytes, and answers the place of the end gate behind it, in bytes from the start
-    /// of the file.
+    /// Adds an entry, given by its bytes, and returns the place of the end gate after it, in bytes from the start of
+    /// the file.
     ///
-    /// The length, the entry and a closed gate are written behind the end gate and synced; then the end gate is
-    /// opened and synced. So after a crash at any moment the entry is there as a whole or not at all, and after
-    /// `Ok` it is there. Where the entry goes on into a new block of the disk, zeros are written behind the closed
-    /// gate up to the end of that block, but not past the limit; so most calls leave the length of the file.
-    /// Cost: four writes and two syncs; no memory.
+    /// The length, the entry and a closed gate are written after the end gate and synced; then the end gate is opened
+    /// and synced. So after a crash at any moment the entry is there as a whole or not at all, and after `Ok` it is
+    /// there. If the entry goes on into a new block of the disk, zeros are written after the closed gate up to the end
+    /// of that block, but not past the limit. So most calls do not change the length of the file. Cost: four writes and
+    /// two syncs; no memory.
     ///
     /// # Errors
     ///
-    /// `JournalFull`: the file would be longer than the limit; nothing is changed. `StoreFault`: the disk did not
-    /// do a call; the entry may be there or not, and the journal has to be opened again.
+    /// `JournalFull`: the file would be longer than the limit; nothing is changed. `StoreFault`: a call of the disk
+    /// failed; the entry may be there or not, and the journal must be opened again.
     pub fn append(&mut self, entry: &[u8]) -> Result<u64, AppendFault>
         requires entry { IsEntry entry.now }
         requires at_rest { IsTrue D.honest → (head : List ℕ) × (entries : List Entry)
@@ -212,14 +212,14 @@ impl<D: Disk> Journal<D> {
             → IsAtRest head (D.state self.old.disk) self.old.gate entries
             → KeepsTo D.Disk self.old.disk self.new.disk (BeforeOrAfter head entries e (D.state self.old.disk)) }
 
-        // After `Ok` it is the latter.
+        // After `Ok` it has those and the new one.
         ensures acknowledged { IsTrue D.honest → (head : List ℕ) (entries : List Entry) (e : Entry) → EntryFits e
             → entry.now ≡ spelling e
             → IsAtRest head (D.state self.old.disk) self.old.gate entries
             → OnOk result (IsAtRest head (D.state self.new.disk) self.new.gate (entries ++ e ∷ [])) }
 
-        // Behind the new end gate stand at most 4,095 zeros more, and none past the limit: no image gets longer than
-        // the less of both, but where one was so before.
+        // After the new end gate there are at most 4,095 zeros more, and none past the limit. So no image gets longer
+        // than the smaller of the two, unless one was longer before.
         ensures room { IsTrue D.honest → (n : ℕ)
             → min self.old.limit (self.old.gate + 6 + length entry.now + 4095) ≤ n
             → IsNoLonger n (D.state self.old.disk)
@@ -276,7 +276,7 @@ impl<D: Disk> Journal<D> {
         &mut self.disk
     }
 
-    /// Gives the disk back.
+    /// Returns the disk.
     pub fn give_back(self) -> D
         ensures { result ≡ self.disk }
     {

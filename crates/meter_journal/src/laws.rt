@@ -10,7 +10,7 @@ pub fn one_head()
     ensures foreign { (file : List ℕ) → IsForeign file ↔ ((IsNotMade file → ⊥) × (IsMade file → ⊥)) }
 {}
 
-/// States that a file holds one list of entries, behind any head. It does nothing.
+/// States that a file has at most one list of entries, after any head. It does nothing.
 pub fn one_history()
     ensures { (head : List ℕ) (a b : List Entry) (file : List ℕ) → HasEntries head a file → HasEntries head b file
         → a ≡ b }

@@ -54,7 +54,7 @@ fn empty_file<D: Disk>(disk: &mut D) -> Result<(), Failed>
     disk.sync(FileNo::Journal)
 }
 
-// A closed head, then the mark and a closed gate, then the open head.
+// Writes a closed head, then the mark and a closed gate, then the open head.
 fn make<D: Disk>(disk: &mut D) -> Result<(), Failed>
     ensures any_moment { IsTrue D.honest → (bytes : List ℕ) → (D.state disk.old).journal ≡ synced_file bytes
         → IsNotMade bytes
@@ -88,16 +88,16 @@ pub enum Made {
     Now,
 }
 
-/// Makes the journal file where it is not made. One that is made or foreign stays as it is.
+/// Makes the journal file if it is not made. A file that is made or foreign stays as it is.
 ///
 /// The head is opened last, so after a crash at any moment the file is as before, or not made, or made and without
 /// entries.
-/// Cost: three writes, a cut and five syncs where the file is made; no memory.
+/// Cost: three writes, a cut and five syncs if the file is made; no memory.
 ///
 /// # Errors
 ///
-/// `StoreFault`: the disk did not do a call. `Foreign`: the file is longer than 11 bytes and has no open gate at
-/// its head, or it has another mark behind it.
+/// `StoreFault`: a call of the disk failed. `Foreign`: the file is longer than 11 bytes and has no open gate at its
+/// head, or it has another mark after it.
 pub fn create<D: Disk>(disk: &mut D) -> Result<Made, OpenFault>
     ensures before { IsTrue D.honest → IfOk result (λ m. m ≡ Made.Before → IsMade (D.state disk.old).journal.seen
         × ((D.state disk.new).journal ≡ synced_file (D.state disk.old).journal.seen)) }
@@ -108,18 +108,18 @@ pub fn create<D: Disk>(disk: &mut D) -> Result<Made, OpenFault>
     ensures foreign { IsTrue D.honest → IsErrOf result OpenFault.Foreign
         → (D.state disk.new).journal ≡ synced_file (D.state disk.old).journal.seen }
 
-    // Of one that is made or foreign each image is one from before.
+    // If the file is made or foreign, each image is one from before.
     ensures unchanged { IsTrue D.honest → (IsNotMade (D.state disk.old).journal.seen → ⊥)
         → KeepsTo D.Disk disk.old disk.new (Narrower (D.state disk.old)) }
 
-    // Of any other it is one from before, or not made, or made and without entries.
+    // In each case an image is one from before, or not made, or made and without entries.
     ensures any_moment { IsTrue D.honest → KeepsTo D.Disk disk.old disk.new (BeforeOrEmpty (D.state disk.old)) }
 
-    // It gets no longer than 11 bytes.
+    // It gets no longer than 11 bytes, unless it was longer before.
     ensures room { IsTrue D.honest → (n : ℕ) → 11 ≤ n → IsNoLonger n (D.state disk.old)
         → KeepsTo D.Disk disk.old disk.new (IsNoLonger n) }
 
-    // On every disk: one that is made or foreign is not written, and after `Ok` nothing of it is left to be synced.
+    // On every disk: a file that is made or foreign is not written, and after `Ok` nothing of it needs a sync.
     ensures writes { IfOk result (λ m. m ≡ Made.Before → WritesNothing D.Disk disk.old disk.new) }
     ensures writes_err { IfErr result (λ e. (e ≡ StoreFault → ⊥) → WritesNothing D.Disk disk.old disk.new) }
     ensures nothing_left { OnOk result ((D.tally disk.new).journal ≡ false) }

@@ -39,14 +39,14 @@ impl<D: Disk> Model for Opening<D> {
 impl<D: Disk> Opening<D> {
     /// Opens a journal, to be read from its first gate or from this place.
     ///
-    /// The file is synced and its head is read; nothing is written, so its images are among those from before.
-    /// `limit` and `from` are in bytes from the start of the file; `from` is a gate that was read before.
+    /// The file is synced and its head is read. Nothing is written, so its images are among those from before. `limit`
+    /// and `from` are in bytes from the start of the file; `from` is a gate that was read before.
     ///
     /// # Errors
     ///
-    /// The disk comes back beside the fault. `StoreFault`: the disk did not do a call. `NotMade`: the file is
-    /// shorter than 11 bytes, or has 11 bytes and a closed gate at its head. `Foreign`: it is longer and has no
-    /// open gate at its head, or has another mark.
+    /// The disk is returned with the fault. `StoreFault`: a call of the disk failed. `NotMade`: the file is shorter
+    /// than 11 bytes, or has 11 bytes and a closed gate at its head. `Foreign`: it is longer and has no open gate at
+    /// its head, or has another mark.
     pub fn begin(disk: D, limit: u64, from: Option<u64>) -> Result<Opening<D>, (OpenFault, D)>
         requires limit { limit ≤ 2 ^ 45 }
         requires from { IfSome from (λ place. 10 ≤ place) }
@@ -67,7 +67,7 @@ impl<D: Disk> Opening<D> {
         ensures any_moment_err { IsTrue D.honest → IfErr result
             (λ e. KeepsTo D.Disk disk e.1 (Narrower (D.state disk))) }
 
-        // Where no call of the disk failed, its files read as before. On every disk nothing is written.
+        // If no call of the disk failed, its files read as before. On every disk nothing is written.
         ensures reads { IsTrue D.tells → IfOk result (λ o. SameReads (D.state disk) (D.state o.disk)) }
         ensures reads_err { IsTrue D.tells → IfErr result (λ e. (e.0 ≡ StoreFault → ⊥)
             → SameReads (D.state disk) (D.state e.1)) }
@@ -88,16 +88,16 @@ impl<D: Disk> Opening<D> {
         }
     }
 
-    /// Reads the next entry, or answers `None` where the gate is not open.
+    /// Reads the next entry, or returns `None` if the gate is not open.
     ///
-    /// After an entry the next call reads at the gate behind it. Nothing is written.
+    /// After an entry the next call reads at the gate after it. Nothing is written.
     /// Cost: that of `Journal::next`.
     ///
     /// # Errors
     ///
-    /// The next call then reads at the same gate again. `Damaged` at the gate: it lies past the end of the file; or
-    /// it is open and the frame's length, its entry or the next gate ends past the end or past 2^45 bytes, or the
-    /// frame holds no entry. `StoreFault`: the disk did not do a call. `NoMemory`: memory for the entry ran out.
+    /// The next call then reads at the same gate again. `Damaged` at the gate: the gate is past the end of the file; or
+    /// it is open, and the frame's length, its entry or the next gate ends past the end or past 2^45 bytes, or the
+    /// frame has no entry. `StoreFault`: a call of the disk failed. `NoMemory`: memory for the entry ran out.
     pub fn next(&mut self, alloc: Global) -> Result<Option<Entry>, OpenFault>
         requires known { IsTrue D.tells → self.old.length ≡ length (D.state self.old.disk).journal.seen }
         ensures exact { IsTrue D.tells → NextGives result self.old.gate self.new.gate
@@ -106,7 +106,7 @@ impl<D: Disk> Opening<D> {
         ensures cause { HasStoreCause (D.fault_count self.old.disk) (D.fault_count self.new.disk) result }
         ensures rises { IfOk result (λ read. IfSome read (λ e. (self.old.gate < self.new.gate)
             × (self.new.gate ≤ 2 ^ 45))) }
-        // Memory is wanting only for a frame that claims no more than an entry may have.
+        // Memory runs out only for a frame that claims no more bytes than an entry may have.
         ensures memory { IsTrue D.tells → IsErrOf result OpenFault.NoMemory
             → size_at self.old.gate (D.state self.old.disk).journal.seen ≤ entry_limit }
         // On every disk: what is read is an entry in range, and its frame is passed over.
@@ -117,21 +117,21 @@ impl<D: Disk> Opening<D> {
         self.journal.next(alloc, self.end)
     }
 
-    /// Makes the journal behind the last entry, once `next` has answered `None`.
+    /// Makes the journal after the last entry, once `next` has returned `None`.
     pub fn ready(self) -> Journal<D>
         ensures { (result.disk ≡ self.disk) × (result.gate ≡ self.gate) × (result.limit ≡ self.limit) }
     {
         self.journal
     }
 
-    /// Tells the place of the next gate, in bytes from the start of the file.
+    /// Returns the place of the next gate, in bytes from the start of the file.
     pub fn offset(&self) -> u64
         ensures { result ≡ self.now.gate }
     {
         self.journal.end()
     }
 
-    /// Gives the disk back.
+    /// Returns the disk.
     pub fn give_back(self) -> D
         ensures { result ≡ self.disk }
     {

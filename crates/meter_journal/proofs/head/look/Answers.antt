@@ -29,7 +29,7 @@ ok_holds : {T E : Type 0} (result : Result T E) (P : Type 0) → is_err result �
 ok_holds (Ok x) P is p = p
 ok_holds (Err e) P is p = absurd (false≢true (sym is))
 
--- where the sync was done, what is read is what it was
+-- if the sync was done, what is read is what it was
 same_seen : {T E : Type 0} (result : Result T E) (old synced new : State) → is_err result ≡ false → OnOk result (SameReads old synced)
     → new ≡ synced → new.journal.seen ≡ old.journal.seen
 same_seen result old synced new ok reads is = ap (λ (s : State). s.journal.seen) is ∙ ok_holds result (SameReads old synced) ok reads Journal
