@@ -1,4 +1,4 @@
--- The rows of tables that stand on several pages.
+-- The rows of tables that are on several pages.
 use Rattle.std.proofs.Common.{◌≡◌, ◌∙◌, ℕ, ◌+◌, ◌<◌, ◌≤◌, List, [], ◌∷◌, ◌++◌, length, drop, get_or, ap, sym, refl, append_assoc, append-nil, drop-cons, arith}
 use Rattle.std.specs.List.{flat_map}
 use Rattle.std.proofs.lemmas.Grind.{flat_map-append}
@@ -27,7 +27,7 @@ next_page : (text : List ℕ) (page : Tables) (pages : List Tables)
 next_page text page pages =
     append_assoc text (rows_csv page) (rows_csv (tables_of pages)) ∙ ap (λ rest. text ++ rest) (sym (rows_more page (tables_of pages)))
 
--- a page is bound behind those before it
+-- a page is bound after those before it
 pub page_bound : (all text after : List ℕ) (pages : List Tables) (i : ℕ) (page : Tables) → i < length pages → page ≡ get_or pages i page
     → after ≡ text ++ rows_csv page → text ++ rows_csv (tables_of (drop i pages)) ≡ all → after ++ rows_csv (tables_of (drop (i + 1) pages)) ≡ all
 page_bound all text after pages i page within is grows before =

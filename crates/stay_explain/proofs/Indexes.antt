@@ -129,7 +129,7 @@ module _ (owner : Owner) (at : ℕ) where
   ends_as : (row : Row) → row.owner ≡ owner → row.to ≡ None → ends (booked_of row) ≡ booked_of (ended at row)
   ends_as row owns open_yet = let is = is_opens owner row owns open_yet in rw is refl
 
-  -- where the owner has no open stay nothing ends
+  -- if the owner has no open stay nothing ends
   pub none_end : (rows : List Row) → ((p : ℕ) → IsOpenAt owner p rows → ⊥) → map booked_of rows ≡ end_stays owner.key (item_of owner.item) at (map booked_of rows)
   none_end [] h = refl
   none_end (row ∷ rows) h = λ i.

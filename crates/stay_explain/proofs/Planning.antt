@@ -1,4 +1,4 @@
--- What the plan of a command books is what the plain office tells.
+-- What the plan of a command books is what the plain office books.
 use Rattle.std.proofs.Common.{◌≡◌, ℕ, List, [], ◌∷◌, ◌++◌, fold, refl, ap, sym, ◌∙◌, subst, Bool, true, false, cond}
 use Rattle.std.specs.Prelude.{Option, Some, None, Result, Ok, Err, option_map, option_to_list, not}
 use Rattle.std.specs.Option.{ok_or}
@@ -49,7 +49,7 @@ module _ (key : List ℕ) (item : Item) (at : ℕ) where
   kept_at stay stays true h more = absurd (nil_or_more stay (open_of key item stays) h)
   kept_at stay stays false h more = ap (λ (l : List Booked). stay ∷ l) (more h)
 
-  -- nothing ends where none is open
+  -- nothing ends if none is open
   pub none_ends : (stays : List Booked) → open_of key item stays ≡ [] → end_stays key item at stays ≡ stays
   none_ends [] h = refl
   none_ends (stay ∷ stays) h = kept_at stay stays (is_open_stay key item stay) h (none_ends stays)
@@ -90,7 +90,7 @@ pub has_the_id : (id : VersionId) (version : Version) (versions : List Version) 
 has_the_id id version [] h = absurd cc
 has_the_id id version (v ∷ versions) h = found_at id version versions (has_id id v) v refl h (has_the_id id version versions)
 
--- a version's stays where it has none open that is not there
+-- a version that is not there has no open stay
 abbrev KnowsNone : List ℕ → VersionId → Option Version → List Booked → Type 0
 KnowsNone key id o stays = o ≡ None → open_of key (of_version id) stays ≡ []
 
@@ -104,7 +104,7 @@ goes_option key id at books (Some v) has none =
 knows_none : (key : List ℕ) (id : VersionId) (account : Account) → HasOpenStays account → KnowsNone key id (version_at id (versions_of key account.bucket)) account.books.stays
 knows_none key id account has is = has key (of_version id) ∙ ap (λ (o : Option Version). option_to_list (option_map (stay_of_version key) o)) is
 
--- the stays where the null version goes as a version comes
+-- the stays if the null version goes as a version comes
 replaced_stays : (key : List ℕ) (at : ℕ) (books : Books) (versions : List Version) (versioning : Versioning) → KnowsNone key Null (version_at Null versions) books.stays
     → (without_option key (replaced versioning versions) at books).stays ≡ after_ends key (null_ends versioning) at books.stays
 replaced_stays key at books versions Unversioned none = goes_option key Null at books (version_at Null versions) (λ v is. has_the_id Null v versions is) none

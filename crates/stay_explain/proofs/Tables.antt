@@ -53,7 +53,7 @@ pub at_map : (name : List ℕ) (es : List (List ℕ × Account)) → at_name nam
 at_map name [] = refl
 at_map name (e ∷ es) = at_pick (is_at (bytes_cmp name) e.0) e.1 (at_name name (map stays_of es)) (at_name name es) (at_map name es)
 
--- ---- what begins has no open stay, where it alone is open afterwards
+-- ---- what begins has no open stay, if it alone is open afterwards
 
 none_left : (xs : List Booked) → length xs + 1 ≤ 1 → xs ≡ []
 none_left [] h = refl

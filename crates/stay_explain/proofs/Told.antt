@@ -1,4 +1,4 @@
--- What is told of each command on a bucket is what is planned.
+-- What the plain office does for each command on a bucket is what is planned.
 use Rattle.std.proofs.Common.{ℕ, refl}
 use Rattle.std.specs.Prelude.{None}
 use Rattle.office_base.specs.Maps.{at_name}

@@ -1,4 +1,4 @@
--- What a journal is explained by.
+-- What explaining a journal file gives.
 use Rattle.std.specs.Prelude.{◌≡◌, ℕ, List, Some}
 use Rattle.meter_journal.specs.History.{HasHistory}
 use Rattle.office_types.specs.declared.command.Entry.{Entry}

@@ -30,12 +30,12 @@ pub record IsLedgerOf (history : List Entry) (ledger : LedgerRecord) : Type 0 wh
 
 -- ---- what an entry books
 
--- what a command plans in a bucket, and nothing where the bucket is not there
+-- what a command plans in a bucket; nothing if the bucket is not there
 abbrev pub plan_at : ℕ → Command → Option AccountRecord → Option Plan
 plan_at t asked None = None
 plan_at t asked (Some account) = plan_of t asked account.bucket
 
--- what a command plans in the bucket of this name, and nothing where it names none
+-- what a command plans in the bucket of this name; nothing if there is no name
 abbrev pub plan_in : ℕ → Command → Option (List ℕ) → List (List ℕ × AccountRecord) → Option Plan
 plan_in t asked None accounts = None
 plan_in t asked (Some name) accounts = plan_at t asked (at_name name accounts)
@@ -44,12 +44,12 @@ plan_in t asked (Some name) accounts = plan_at t asked (at_name name accounts)
 abbrev pub planned : ℕ → Command → List (List ℕ × AccountRecord) → Option Plan
 planned t asked accounts = plan_in t asked (bucket_of asked) accounts
 
--- the tables after the plan was booked on the stays of the bucket of this name, where it has a table
+-- the tables after the plan was booked on the stays of the bucket of this name, if it has a table
 abbrev pub table_by : Plan → Option (List Booked) → List ℕ → Tables → Tables
 table_by plan None name tables = tables
 table_by plan (Some stays) name tables = set_value (is_at (bytes_cmp name)) tables (stays_by plan stays)
 
--- the plan is booked in the bucket of this name; where there is no plan or no name, nothing is
+-- the plan is booked in the bucket of this name; if there is no plan or no name, nothing is booked
 abbrev pub tables_by : Option (List ℕ) → Option Plan → Tables → Tables
 tables_by None plan tables = tables
 tables_by (Some name) None tables = tables

@@ -1,4 +1,4 @@
--- What stands on the pages into which the table is divided.
+-- The pages into which the table is divided.
 use Rattle.std.specs.Prelude.{ℕ, List}
 use Rattle.std.specs.List.{flat_map}
 use Rattle.csv.specs.Writing.{row_text, default_writer}

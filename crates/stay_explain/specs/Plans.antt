@@ -43,7 +43,7 @@ end_stay key item at stay = if is_open_stay key item stay then (stay.0, record s
 abbrev pub end_stays : List ℕ → Item → ℕ → List Booked → List Booked
 end_stays key item at stays = map (end_stay key item at) stays
 
--- a stay of the item under the key begins at the moment with its lines, behind all others
+-- a stay of the item under the key begins at the moment with its lines, after all others
 abbrev pub begin_stay : List ℕ → Item → List (Class × ℕ) → ℕ → List Booked → List Booked
 begin_stay key item lines at stays = stays ++ (record { key = key; item = item }, open_stay lines at) ∷ []
 
@@ -80,7 +80,7 @@ stays_after (Some plan) stays = stays_by plan stays
 abbrev pub goes : List ℕ → Item → ℕ → Plan
 goes key item at = record { key = key; ends = item ∷ []; begins = None; at = at }
 
--- only in an Enabled bucket the null version stays where a version comes
+-- the null version, which goes when a version comes; in an Enabled bucket it stays
 abbrev pub null_ends : Versioning → List Item
 null_ends Unversioned = of_version Null ∷ []
 null_ends Enabled = []
@@ -139,7 +139,7 @@ abbrev pub made_whole : BucketRecord → ℕ → ℕ → UploadRecord → Plan
 made_whole bucket number at upload =
     comes bucket upload.key (part_items number upload.parts) (object_lines upload.class (total_size upload.parts)) at
 
--- the same where there is such an upload and it has parts, else nothing
+-- the same if there is such an upload and it has parts; else nothing
 abbrev pub completed : BucketRecord → ℕ → ℕ → Option UploadRecord → Option Plan
 completed bucket number at None = None
 completed bucket number at (Some upload) =

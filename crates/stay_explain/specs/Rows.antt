@@ -1,4 +1,4 @@
--- What the rows of the program stand for in the words of the plain office.
+-- What the rows of the program stand for in the plain office.
 use Rattle.std.specs.Prelude.{◌≡◌, ℕ, List, Option, Some, None, slice_get}
 use Rattle.class_rules.specs.Lines.{lines_of}
 use Rattle.office_base.specs.declared.version_id.VersionId.TheVariants as id
@@ -14,7 +14,7 @@ item_of spot.Null = of_version id.Null
 item_of (spot.Number n) = of_version (id.Number n)
 item_of (spot.Part upload part) = of_part upload part
 
--- whose stay a row is
+-- the key and the item whose stay a row is
 abbrev pub label_of : Owner → Label
 label_of owner = record { key = owner.key; item = item_of owner.item }
 
@@ -29,7 +29,7 @@ pub record IsOpenAt (owner : Owner) (place : ℕ) (rows : List Row) : Type 0 whe
   pub owns : row.owner ≡ owner
   pub open_yet : row.to ≡ None
 
--- each owner with an open stay is found, with its place, and no other
+-- each owner with an open stay is found, with the place of the stay, and no other owner is found
 pub record IsIndex (rows : List Row) (find : Owner → Option ℕ) : Type 0 where
   pub found : (owner : Owner) (place : ℕ) → find owner ≡ Some place → IsOpenAt owner place rows
   pub kept : (owner : Owner) (place : ℕ) → IsOpenAt owner place rows → find owner ≡ Some place

@@ -19,7 +19,7 @@ abbrev pub item_text : Item → List ℕ
 item_text (of_version id) = codes "v:" ++ id_text id
 item_text (of_part upload part) = codes "u:" ++ decimal upload ++ codes "/" ++ decimal part
 
--- the end of a stay, or that it is open yet
+-- the end of a stay, or that it is still open
 abbrev pub end_text : Option ℕ → List ℕ
 end_text None = codes "open"
 end_text (Some at) = moment_text at

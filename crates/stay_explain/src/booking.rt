@@ -1,4 +1,4 @@
-// Which stays end and begin by a command.
+// Which stays a command ends and begins.
 ghost use Rattle.std.specs.Prelude.{◌≡◌, ◌++◌, ◌∷◌, [], ℕ, map, length, Some, None, OnOk, IfOk};
 ghost use Rattle.std.specs.Prelude.{option_copied, option_map};
 ghost use Rattle.class_rules.specs.Lines.{lines_of, marker_line};
@@ -25,7 +25,7 @@ use std::alloc::Global;
 use std::marker::Model;
 use uploads::Upload;
 
-/// What a command books of its bucket: under a key the stays of these items end at a moment, and then one may begin.
+/// What a command books in its bucket: under a key the stays of these items end at a moment, and then one may begin.
 #[derive(Drop)]
 pub(crate) struct Booking {
     pub key: Key,
@@ -80,7 +80,7 @@ fn with(ends: &mut Vec<Item>, item: Item) -> Result<(), NoMemory>
     }
 }
 
-/// Gives the item of the bucket's next version.
+/// Returns the item of the bucket's next version.
 fn next_item(bucket: &Bucket) -> Item
     ensures { item_of result ≡ of_version (next_id bucket.now) }
 {
@@ -90,7 +90,7 @@ fn next_item(bucket: &Bucket) -> Item
     }
 }
 
-/// A version comes, and the null version goes where the new one is the null version, after these.
+/// A version comes. These items go, and then the null version, if the new version is the null version.
 fn comes(bucket: &Bucket, key: &Key, ends: Vec<Item>, lines: Lines, at: Moment) -> Maybe
     ensures { IfOk result (λ made.
         made ≡ Some (plans.comes bucket.now key.now (map item_of ends.items) (lines_of lines) at)) }
@@ -259,10 +259,10 @@ fn acted(alloc: Global, account: &Account, t: Moment) -> Maybe
     }
 }
 
-/// Tells which stays of its bucket end and begin by a command that is accepted at a moment.
+/// Returns which stays of its bucket a command ends and begins that is accepted at a moment.
 ///
-/// Cost: a few searches; an act takes the first of the bucket's queue of next actions, and reads all versions and
-/// uploads of the bucket where there is no queue for want of memory.
+/// Cost: a few searches; an act takes the first of the bucket's queue of next actions. If there is no queue because
+/// memory ran out, it reads all versions and uploads of the bucket.
 #[tactic(auto, unfolding(crate::specs::Plans::plan_of))]
 pub(crate) fn plan(alloc: Global, account: &Account, t: Moment, command: &Command) -> Maybe
     ensures { IfOk result (λ made. made ≡ plan_of t command.now account.now.bucket) }

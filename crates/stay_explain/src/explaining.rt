@@ -1,4 +1,4 @@
-// Explaining a journal.
+// Explains a journal.
 ghost use Rattle.std.specs.Prelude.{◌<◌, ◌≤◌, ◌++◌, ◌∷◌, [], List, IfErr, IfOk, OnOk, IsErrOf};
 ghost use Rattle.office_types.specs.Tokens.{MayCarry};
 ghost use Rattle.office_types.specs.declared.command.Entry.{Entry};
@@ -58,9 +58,9 @@ fn read(alloc: Global, journal: &[u8]) -> Result<Ledger, OpenFault>
 
 /// Prints the table of stays of a journal: a CSV of every interval in which a version or a part was billed.
 ///
-/// Buckets stand in byte order of their names, the stays of a bucket in the order in which they were opened, and a
-/// stay's own line before its line in STANDARD.
-/// `workers` is how many threads may print buckets at once; the table is the same for every number.
+/// Buckets are in byte order of their names, and the stays of a bucket are in the order in which they were opened. A
+/// stay's own line comes before its line in STANDARD. `workers` is how many threads may print buckets at once; the
+/// table is the same for every number.
 ///
 /// # Errors
 ///

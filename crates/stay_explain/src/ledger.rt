@@ -35,7 +35,7 @@ impl Model for Ledger {
     ghost view = { λ l. record { office = l.office; tables = l.tables.entries } };
 }
 
-/// Makes the stays of a bucket that is made.
+/// Adds a table without stays, for a bucket that is made.
 fn open_table(
     tables: &mut BTreeMap<BucketName, Stays>,
     alloc: Global,
@@ -87,7 +87,7 @@ fn book(
 }
 
 impl Ledger {
-    /// Gives the ledger of no entries. Takes no memory.
+    /// Returns the ledger of no entries. Takes no memory.
     pub(crate) fn new(alloc: Global) -> Ledger
         ensures empty { IsLedgerOf [] result }
     {
@@ -103,7 +103,7 @@ impl Ledger {
         &self.tables
     }
 
-    // What the command of an entry books, as the bucket stands before it.
+    // What the command of an entry books in its bucket, as it is before the command.
     fn booking_of(&self, alloc: Global, entry: &Entry) -> Result<Option<Booking>, NoMemory>
         ensures { IfOk result (λ made. made
             ≡ planned entry.now.moment entry.now.command self.now.office.records.accounts) }

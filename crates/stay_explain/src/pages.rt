@@ -1,4 +1,4 @@
-// The pages of the table: the stays of some buckets that follow one another, which one worker prints.
+// The pages of the table. A page has the stays of some buckets that follow one another, and one worker prints it.
 ghost use Rattle.std.specs.Prelude.{◌≡◌, ◌≤◌, ◌++◌, ◌∷◌, [], IfOk, OnOk};
 ghost use Rattle.stay_explain.specs.Pages.{rows_csv, tables_of};
 
@@ -16,7 +16,7 @@ use std::mem;
 #[derive(Drop)]
 pub(crate) struct Page<'a> {
     tables: Vec<Table<'a>>,
-    // None before the page is printed, and where memory ran out.
+    // `None` before the page is printed, or if memory ran out.
     text: Option<Vec<u8>>,
 }
 
@@ -70,7 +70,7 @@ fn weight(rows: &[Row]) -> usize {
 #[derive(Drop)]
 struct Filling<'a> {
     pages: Vec<Page<'a>>,
-    // What stands on the page that is being filled, and its weight.
+    // The tables on the page that is being filled, and its weight.
     tables: Vec<Table<'a>>,
     weight: usize,
 }
@@ -108,7 +108,7 @@ impl<'a> Filling<'a> {
         }
     }
 
-    // Adds a table, on a new page where the one that is being filled has this weight.
+    // Adds a table; on a new page if the one that is being filled has this weight.
     fn add(&mut self, alloc: Global, table: Table<'a>, limit: usize) -> Result<(), NoMemory>
         ensures { OnOk result (self.new ≡ self.old ++ table.entry ∷ []) }
     {
@@ -122,7 +122,7 @@ impl<'a> Filling<'a> {
         }
     }
 
-    // Gives the pages, also the one that is being filled.
+    // Returns the pages, with the one that is being filled.
     fn finish(self) -> Result<Vec<Page<'a>>, NoMemory>
         ensures { IfOk result (λ pages. tables_of pages.items ≡ self.entry) }
     {

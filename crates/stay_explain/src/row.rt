@@ -15,7 +15,7 @@ pub enum Item {
     Part(u64, u32),
 }
 
-/// Gives the item of a version.
+/// Returns the item of a version.
 pub(crate) fn item_of(id: VersionId) -> Item
     ensures { item_of result ≡ of_version id }
 {

@@ -48,7 +48,7 @@ fn copy_of(owner: &Owner) -> Result<Owner, NoMemory>
 }
 
 impl Stays {
-    /// Gives the stays of a bucket that is made. Takes no memory.
+    /// Returns the stays of a bucket that is made. Takes no memory.
     pub(crate) fn new(alloc: Global) -> Stays
         ensures { result ≡ [] }
     {
@@ -65,7 +65,7 @@ impl Stays {
         self.rows.as_slice()
     }
 
-    /// Ends the open stay of an owner, where there is one. Cost: one search.
+    /// Ends the open stay of an owner, if there is one. Cost: one search.
     fn end(&mut self, owner: &Owner, at: Moment)
         ensures { self.new ≡ end_stays owner.now.key (item_of owner.now.item) at self.old }
     {

@@ -1,4 +1,4 @@
-// The table, worked by threads.
+// Prints the table with threads.
 ghost use Rattle.std.specs.Prelude.{◌≡◌, ◌≤◌, IfOk};
 ghost use Rattle.stay_explain.specs.Pages.{tables_of};
 ghost use Rattle.stay_explain.specs.Table.{tables_csv};
@@ -12,7 +12,7 @@ use std::collections::BTreeMap;
 use std::thread;
 use std::thread::Threads;
 
-/// Prints the pages, in up to so many threads.
+/// Prints the pages, in at most this many threads.
 fn print_all<R: Threads + Sync>(rt: &R, alloc: Global, pages: &mut [Page<'_>], workers: u32)
     requires { 1 ≤ workers }
     ensures { pages.new ≡ pages.old }
@@ -21,7 +21,7 @@ fn print_all<R: Threads + Sync>(rt: &R, alloc: Global, pages: &mut [Page<'_>], w
     thread::for_each_mut(rt, pages, threads, &|_, page| page.print(alloc));
 }
 
-/// Binds the header and the pages, in their order.
+/// Joins the header and the pages, in their order.
 #[tactic(auto, using(crate::proofs::Bindings::header_first))]
 fn bind(alloc: Global, pages: &[Page<'_>]) -> Result<Vec<u8>, NoMemory>
     ensures { IfOk result (λ text. text.items ≡ tables_csv (tables_of pages.now)) }
@@ -36,8 +36,8 @@ fn bind(alloc: Global, pages: &[Page<'_>]) -> Result<Vec<u8>, NoMemory>
     Ok(text)
 }
 
-/// Writes the header and the stays of each bucket. The buckets are printed by up to so many threads, and where one is
-/// enough or no more can be made, by this one.
+/// Writes the header and the stays of each bucket. At most this many threads print the buckets. If one is enough, or no
+/// more can be made, the caller's thread prints them.
 pub(crate) fn table_text<R: Threads + Sync>(
     rt: &R,
     alloc: Global,
