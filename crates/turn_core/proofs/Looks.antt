@@ -37,7 +37,7 @@ module _ {T A S : Type 0} (stands : T → T → List (A × S) → Type 0) where
 
   module _ (opening : T) (log : List (TurnCall A S)) (drawn : ℕ) (s : St) (r : InTurn stands opening log drawn s) (id : ℕ)
       (v : D) (at : get_elem? s.views id ≡ some v) (t : ℕ) (mine : v.ticket ≡ Some t) (idle : v.served ≡ false) where
-    -- the word shows the ticket only where it is the ticket's turn
+    -- the word shows the ticket only if it is the ticket's turn
     turn_is : length log % 2 ^ 64 ≡ t % 2 ^ 64 → length log ≡ t
     turn_is e = let here = (r.each id v at).in_turn t mine in let few = few_out opening log drawn s r in
         one_turn (length log) t (2 ^ 64) here.0 (omega (arith, here.1, few)) e

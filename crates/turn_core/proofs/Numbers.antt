@@ -66,7 +66,7 @@ module _ {T A S : Type 0} where
   pub parted : (v : View T A S) (number : ℕ) → 0 < v.stride → Owns (left v) number → Owns (right v) number → ⊥
   parted v number pos (k, e) (j, f) = not_odd k j v.number v.stride pos (sym e ∙ f) (dec_le k j)
 
-  -- a number that was known is known still, where a view changes and keeps its numbers
+  -- a number that was known is known still, if a view changes and keeps its numbers
   pub still_known : (views : List (View T A S)) (id : ℕ) (v w : View T A S) → get_elem? views id ≡ some v → (0 < v.share → 0 < w.share) → numbers w ≡ numbers v
       → (number : ℕ) → IsKnown views number → IsKnown (set views id w) number
   still_known views id v w at back same_numbers number (by, u, e, l, has) = ⊎_elim

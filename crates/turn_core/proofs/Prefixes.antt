@@ -67,7 +67,7 @@ module _ {A S : Type 0} where
       (λ (e : ys ≡ zs). let m : length ys ≡ length zs = ap length e in omega (arith, n, m, c.2)) one)
       (cases xs ys))
 
-  -- each of the two begins the longer, where the shorter does
+  -- each of the two begins the longer, if the shorter does
   pub each_begins : (xs ys : List (TurnCall A S)) → IsPrefix (shorter xs ys) (longer xs ys) → IsPrefix xs (longer xs ys) × IsPrefix ys (longer xs ys)
   each_begins xs ys p = ⊎_elim
       (λ (c : (longer xs ys ≡ ys) × (shorter xs ys ≡ xs) × (length xs ≤ length ys)). (subst (λ (l : List (TurnCall A S)). IsPrefix l (longer xs ys)) c.1 p, ([], append-nil ys ∙ sym c.0)))

@@ -32,7 +32,7 @@ one_of p q n (zero, h, e) = inl (sym e)
 one_of p q n (suc zero, h, e) = inr (sym e)
 one_of p q n (suc (suc k), h, e) = absurd (omega (arith, h))
 
--- where all calls are under two numbers, the list has as many as there are under both
+-- if all calls are under two numbers, the list has as many as there are under both
 module _ {A S : Type 0} (p q : ℕ) (apart : p ≢ q) where
   pub two_numbers : (xs : List (TurnCall A S)) → All (λ c. Contains (p ∷ q ∷ []) c.by) xs → length xs ≡ length (calls_under p xs) + length (calls_under q xs)
   two_numbers [] all = omega arith

@@ -1,4 +1,4 @@
--- What each kind of step tells the pass that makes it.
+-- What the pass that makes a step knows after it, for each kind of step.
 use Rattle.std.specs.Prelude.{◌≡◌, ◌≢◌, ℕ, ◌%◌, ◌^◌, List, [], ◌∷◌, ◌++◌, Option, Some, None, true, false}
 use mathlib.Core.List.{IsPrefix}
 use Rattle.atomic_table.specs.Table.{Me, Step}
@@ -27,13 +27,13 @@ module _ {T A S : Type 0} where
   abbrev pub Moved : Place T A S → LastCall A S → Place T A S → Type 0
   Moved m d m' = (m' ≡ (moved m.0 d, [])) × Counted m'.0
 
-  -- move: the call that the slot tells of is the last one of the list, and the value is given back
+  -- move: the call that the slot records is the last one of the list, and the value is given back
   abbrev pub GivesBack : Step (Option (Kept T A S)) → Place T A S → ℕ → Place T A S → Type 0
   GivesBack st m found m' =
       (k : Kept T A S) (d : LastCall A S) → m.1 ≡ (0, Some k) ∷ [] → k.last ≡ Some d → Moved m d m'
 
-  -- nothing changed: the shorter of the lists of a meeting begins the longer; the calls under the pass's numbers are
-  -- those that were made; and where it has every share it knows all calls
+  -- nothing changed. The shorter of the lists of a meeting begins the longer. The calls under the pass's numbers are
+  -- those that were made. If the pass has every share, it knows all calls.
   abbrev pub Learned : Place T A S → Place T A S → Type 0
   Learned m m' = IsPrefix m.0.older m.0.seen × Counted m.0 × (m.0.share ≡ all_shares → IsWhole m.0) × (m' ≡ m)
 
@@ -49,7 +49,7 @@ module _ {T A S : Type 0} (stands : T → T → List (A × S) → Type 0) where
       × IsPrefix m.0.seen m'.0.seen
       × (m'.0 ≡ record m.0 { seen = m'.0.seen; served = true })
 
-  -- look: the pass is served where the number found is that of its ticket; else nothing changed
+  -- look: if the number found is that of the pass's ticket, the pass is served; else nothing changed
   abbrev pub Looks : Step (Option (Kept T A S)) → Place T A S → ℕ → Place T A S → Type 0
   Looks st m found m' =
       (t : ℕ) → m.0.ticket ≡ Some t → (found ≡ t % 2 ^ 64 → Served m m') × (found ≢ t % 2 ^ 64 → m' ≡ m)

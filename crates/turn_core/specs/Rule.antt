@@ -38,8 +38,8 @@ module _ {T A S : Type 0} where
   abbrev pub IsOut : List (View T A S) → ℕ → Type 0
   IsOut views t = (by : ℕ) × (v : View T A S) × (get_elem? views by ≡ some v) × (v.ticket ≡ Some t)
 
-  -- the whole list has no calls under the pass's number, and the numbers that it met, but those that the pass has
-  -- seen; numbers that it has not given out have none
+  -- under the pass's number, and the numbers that it met, the whole list has only the calls that the pass has seen;
+  -- under numbers that it has not given out, the list has none
   pub record Named (log : List (TurnCall A S)) (v : View T A S) : Type 0 where
     pub stride : 0 < v.stride
     pub counted : Counted v
@@ -52,8 +52,8 @@ module _ {T A S : Type 0} where
   IsKnown views number =
       (by : ℕ) × (v : View T A S) × (get_elem? views by ≡ some v) × (0 < v.share) × Contains (numbers v) number
 
-  -- no number is two passes'; a number that was met is no pass's any more, and met by one pass alone; and each call
-  -- of the whole list was made under a number that is a pass's or met
+  -- no two passes have the same number; a number that was met is no pass's any more, and only one pass met it; each
+  -- call of the whole list was made under a number that a pass has or met
   pub record Numbered (log : List (TurnCall A S)) (views : List (View T A S)) : Type 0 where
     pub named : (by : ℕ) (v : View T A S) → get_elem? views by ≡ some v → 0 < v.share → Named log v
     pub apart : (i j : ℕ) (v w : View T A S) (number : ℕ) → get_elem? views i ≡ some v → get_elem? views j ≡ some w
@@ -65,8 +65,8 @@ module _ {T A S : Type 0} where
     pub known : All (λ c. IsKnown views c.by) log
 
 module _ {T A S : Type 0} (stands : T → T → List (A × S) → Type 0) where
-  -- what is true of each pass: its list begins the whole one, its ticket is among those that are out, and where it is
-  -- served, its turn is now and it has seen all
+  -- what is true of each pass: its list begins the whole one, its ticket is among those that are out, and if it is
+  -- served, its turn is now and it has seen all calls
   pub record Fits (opening : T) (log : List (TurnCall A S)) (drawn : ℕ) (v : View T A S) : Type 0 where
     pub same : 0 < v.share → v.opening ≡ Some opening
     pub prefix : IsPrefix v.seen log
@@ -85,8 +85,8 @@ module _ {T A S : Type 0} (stands : T → T → List (A × S) → Type 0) where
   abbrev pub Away : State (Option (Kept T A S)) (View T A S) → Type 0
   Away s = (s.homes ≡ none ∷ []) × ((by : ℕ) × (v : View T A S) × (get_elem? s.views by ≡ some v) × (v.served ≡ true))
 
-  -- the tickets out are the numbers from the one that is served up to, but not including, the next one to be drawn,
-  -- each with one pass; the list has as many calls as tickets were served
+  -- the tickets that are out are the numbers from the one that is served up to, but not including, the next one to be
+  -- drawn. Each is with one pass. The list has as many calls as tickets were served.
   pub record InTurn (first : T) (log : List (TurnCall A S)) (drawn : ℕ) (s : State (Option (Kept T A S)) (View T A S))
       : Type 0 where
     pub words : s.words ≡ (drawn % 2 ^ 64) ∷ (length log % 2 ^ 64) ∷ []

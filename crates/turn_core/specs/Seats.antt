@@ -14,7 +14,7 @@ module _ {S V : Type 0} where
   abbrev pub IsSeatAt : {K P : Type 0} → Shared S V K P → Seat S V → Type 0
   IsSeatAt table seat = (seat.table_id ≡ table.table_id) × (table.table_id.words ≡ 2) × (table.table_id.slots ≡ 1)
 
-  -- it is the same seat still
+  -- it is still the same seat
   abbrev pub IsSameSeat : Seat S V → Seat S V → Type 0
   IsSameSeat old new = (new.table_id ≡ old.table_id) × (new.id ≡ old.id)
 
@@ -32,13 +32,13 @@ module _ {T A S : Type 0} (stands : T → T → List (A × S) → Type 0) where
   abbrev pub HasValue : Place T A S → Type 0
   HasValue m = (k : Kept T A S) × (m.1 ≡ (0, Some k) ∷ []) × StandsSince stands m.0.opening k.value m.0.seen
 
-  -- it has the value, which stands for that list and the call that the slot tells of
+  -- it has the value, which stands for that list and the call that the slot records
   abbrev pub HasCalled : Place T A S → Type 0
   HasCalled m =
       (k : Kept T A S) × (d : LastCall A S) × (m.1 ≡ (0, Some k) ∷ []) × (k.last ≡ Some d)
       × StandsSince stands m.0.opening k.value (m.0.seen ++ next_call m.0 d.ask.value d.say.value ∷ [])
 
-  -- the same, where that call was this one, and the pass knew v before it
+  -- the same; that call was this one, and the pass knew v before it
   abbrev pub HasAnswered : View T A S → A → S → Place T A S → Type 0
   HasAnswered v ask say m =
       (k : Kept T A S) × (d : LastCall A S) × (m.1 ≡ (0, Some k) ∷ []) × (k.last ≡ Some d) × (d.ask.value ≡ ask)

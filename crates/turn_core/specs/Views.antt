@@ -35,7 +35,7 @@ module _ {T A S : Type 0} where
         served = false;
       }
 
-  -- what a pass that another took in is left with
+  -- what is left of a pass that another took in
   abbrev pub spent : View T A S
   spent = record {
     opening = None;
@@ -87,7 +87,7 @@ module _ {T A S : Type 0} where
     pub met : All (HasMade v.seen) v.met
     pub distinct : AllPairs (λ x y. x ≢ y) (numbers v)
 
-  -- the list has no call under a further number
+  -- each call of the list was made under one of the numbers whose calls the pass knows
   abbrev pub IsWhole : View T A S → Type 0
   IsWhole v = All (λ c. Contains (numbers v) c.by) v.seen
 

@@ -6,7 +6,7 @@ use atomic_table::Seat;
 
 /// A right to take turns. Contracts see its `View`.
 ///
-/// One that is dropped takes its shares with it, and the turns can then not be closed.
+/// A pass that is dropped takes its shares with it. The turns can then not be closed.
 #[derive(Drop)]
 pub struct TicketPass<S, V> {
     pub(crate) seat: Seat<S, V>,
@@ -16,7 +16,7 @@ pub struct TicketPass<S, V> {
 impl<T, A, S> TicketPass<Option<Kept<T, A, S>>, View<T, A, S>> {
     ghost use Rattle.turn_core.specs.Passes.{view, IsBetweenCalls};
 
-    /// Tells how many calls the pass made, or the greatest number that a `u64` holds where it made more.
+    /// Returns how many calls the pass made, or the greatest `u64` if it made more.
     pub fn calls(&self) -> u64
         ensures { IsBetweenCalls self.now → result ≡ min (length (view self.now).made) (2 ^ 64 - 1) }
     {

@@ -8,7 +8,7 @@ use std::snapshot::Snapshot;
 /// What a pass knows of a turned value: the calls that it has seen and made, its ticket and its share.
 pub type Known<T> = View<T, <T as Turned>::Ask, <T as Turned>::Say>;
 
-/// What the slot holds: the value with the last call that was made on it, and nothing while a pass has it.
+/// What the slot holds: the value with the last call that was made on it, or nothing while a pass has it.
 pub type Held<T> = Option<Kept<T, <T as Turned>::Ask, <T as Turned>::Say>>;
 
 /// The word with the number of the next ticket, modulo 2^64.

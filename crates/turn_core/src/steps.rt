@@ -23,7 +23,7 @@ impl<T, A, S> Play<Option<Kept<T, A, S>>, View<T, A, S>> for Draw {
     ghost then = { Draws };
 }
 
-/// A pass looks whether it is served, and takes the value out of the slot where it is.
+/// A pass looks whether it is served. If it is, it takes the value out of the slot.
 pub struct Look<T> {
     of: PhantomData<T>,
 }
@@ -164,7 +164,7 @@ pub(crate) fn take_turn<T: Turned, R: Wait>(
     say
 }
 
-// Tells what is known of a pass: nothing changes.
+// States what is known of a pass; nothing changes.
 pub(crate) fn look_back<T: Turned>(top: &Top<T>, place: &mut Place<T>)
     requires table { IsSeatAt top.now place.old }
     requires rest { AtRest place.old.me }

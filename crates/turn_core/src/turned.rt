@@ -1,4 +1,4 @@
-// What a value has to say of its calls.
+// What a value states of its calls.
 ghost use Rattle.std.specs.Prelude.{List, [], ◌∷◌, ◌++◌};
 
 /// A value whose calls threads make in turns.
@@ -22,7 +22,7 @@ pub trait Turned {
         ensures { (first : Self) (calls : List (Self.Ask × Self.Say)) → stands first self.old calls
             → stands first self.new (calls ++ (ask.now, result) ∷ []) };
 
-    // A value stands for legal calls alone.
+    // A value stands only for legal calls.
     ghost is_lawful: { (first now : Self) (calls : List (Self.Ask × Self.Say)) → stands first now calls
         → lawful first calls };
 }

@@ -34,7 +34,7 @@ impl<T: Turned> TicketLock<Held<T>, Known<T>, Snapshot<T>, Law<T>> {
     ///
     /// # Errors
     ///
-    /// The value comes back only for want of memory.
+    /// Returns the value only if memory ran out.
     pub fn new(alloc: Global, inner: T) -> Result<(Turns<T>, Pass<T>), T>
         requires stands { T.stands inner inner [] }
         ensures made { IfOk result (λ r. IsPassOf r.0 r.1 × (view r.1 ≡ newcomer inner)) }
@@ -65,10 +65,10 @@ impl<T: Turned> TicketLock<Held<T>, Known<T>, Snapshot<T>, Law<T>> {
         }
     }
 
-    /// Makes one call, when the turn of this pass comes, and answers what the value said.
+    /// Makes one call when the turn of this pass comes, and returns what the value said.
     ///
-    /// While other passes have tickets it first waits for a short time. Then it draws one, waits until that is served,
-    /// and may wait for other passes without end.
+    /// While other passes have tickets it first waits for a short time. Then it draws a ticket and waits until that is
+    /// served. It may wait for other passes without end.
     pub fn turn<R: Wait>(&self, rt: &R, pass: &mut Pass<T>, ask: &T::Ask) -> T::Say
         requires own { IsPassOf self.now pass.old }
         ensures own { IsPassOf self.now pass.new }
@@ -114,7 +114,7 @@ impl<T: Turned> TicketLock<Held<T>, Known<T>, Snapshot<T>, Law<T>> {
         look_back(&self.table.shared, &mut pass.seat);
     }
 
-    /// Gives the value, where no other pass is left. The list of the pass is then the whole list.
+    /// Returns the value, if no other pass is left. The list of the pass is then the whole list.
     ///
     /// Cost: no memory.
     pub fn close(self, pass: Pass<T>) -> T

@@ -71,11 +71,10 @@ impl ParkingLot {
     /// Returns once the ticket is served: looks a number of times, and then parks.
     ///
     /// No wake-up is lost. A pass adds itself to `parked`, reads `wakes` and then looks at `serving` again; a move
-    /// changes `serving` and then reads `parked`. So where the look comes before the move, the move finds the pass in
-    /// `parked` and adds to `wakes` after it was read, and the kernel starts no sleep where `wakes` has changed and
-    /// ends one that it started. `wakes` has no time to come round to the same 32 bits: after it was read each other
-    /// pass adds one at most, for a turn that ended or for one before this ticket's, and there are fewer than 2^32
-    /// passes.
+    /// changes `serving` and then reads `parked`. So if the look comes before the move, the move finds the pass in
+    /// `parked` and adds to `wakes` after it was read. If `wakes` has changed, the kernel starts no sleep, and ends one
+    /// that it started. `wakes` has no time to come round to the same 32 bits. After it was read, each other pass adds
+    /// at most one, for a turn that ended or for one before this ticket's, and there are fewer than 2^32 passes.
     pub(crate) fn wait_for<R: Wait, S, V, K, P: TableRule<S, V, K>>(
         &self,
         rt: &R,
@@ -141,9 +140,10 @@ fn look_around<S, V, K, P: TableRule<S, V, K>>(top: &Shared<S, V, K, P>) -> Foun
     }
 }
 
-// Returns once no ticket is out, or after a number of looks and sleeps: then the pass draws a ticket all the same, so
-// that it waits in line. A thread that runs can so take many short turns, which is faster than to hand each one on. No
-// one wakes these sleeps, which would leave the value idle behind a long turn: there the pass draws its ticket at once.
+// Returns once no ticket is out, or after a number of looks and sleeps. After those the pass draws a ticket in any
+// case, so that it waits in line. So a running thread can take many short turns, which is faster than to hand each one
+// on. No one wakes these sleeps, so after a long turn they would leave the value idle; if turns are long, the pass
+// draws its ticket at once.
 pub(crate) fn hold_back<R: Wait, S, V, K, P: TableRule<S, V, K>>(rt: &R, top: &Shared<S, V, K, P>)
     requires { SERVING < top.now.table_id.words }
 {
