@@ -85,7 +85,7 @@ fn in_threads<R: Threads + Wait + Sync>(
     pass
 }
 
-// Takes all turns, and gives what the counter says in the end.
+// Takes all turns, and returns what the counter has at the end.
 fn by_turns<R: Threads + Wait + Sync>(
     rt: &R,
     alloc: Global,
@@ -133,7 +133,7 @@ fn by_lock<R: Threads + Wait + Sync>(rt: &R, threads: u64, count: u64) -> u64 {
     counter.into_inner()
 }
 
-// The words behind the program's name.
+// The words after the program's name.
 fn words_of<R: Env + Alloc<A = Global>>(rt: &R) -> io::Result<Vec<String>> {
     let mut words: Vec<String> = env::args(rt)?.collect(rt.alloc())?;
     if !words.is_empty() {
@@ -142,7 +142,7 @@ fn words_of<R: Env + Alloc<A = Global>>(rt: &R) -> io::Result<Vec<String>> {
     Ok(words)
 }
 
-// Whether all was counted; None for other words than `turns` or `lock`, and then a number of threads from 1 to 64.
+// Whether all was counted; None unless the words are `turns` or `lock`, and then a number of threads from 1 to 64.
 fn counted<R: Threads + Wait + Sync>(rt: &R, alloc: Global, words: &[String]) -> Option<bool> {
     let [how, threads] = words else {
         return None;
