@@ -123,7 +123,7 @@ draft_within_by place false is from = drawn_within place.state
 draft_within : (place : Place) → 4 ≤ place.made → IsWithin (draft_at place)
 draft_within place from = draft_within_by place (nat_lt place.made 8) refl from
 
--- ---- where the four are there, they stay
+-- ---- if the four are there, they stay
 
 module _ (p : Office) (same : names p.accounts ≡ four) where
   abbrev Keeps : Outcome → Type 0

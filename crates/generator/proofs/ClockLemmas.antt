@@ -1,4 +1,4 @@
--- What the clock of a load tells.
+-- The moments that the clock of a load returns.
 use Rattle.std.proofs.Common.{◌≡◌, ℕ, zero, suc, List, [], ◌∷◌, ◌++◌, Some, refl, ap, sym, ◌∙◌, subst, arith}
 use Rattle.std.specs.Io.KnownBytes.{Appends}
 use Rattle.generator.specs.Places.{next_place, place_after}

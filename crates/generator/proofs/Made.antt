@@ -89,7 +89,7 @@ grown : (p : Progress) (e : Entry) (after : List Entry) → GrowsBy (is_accepted
 unfolding after_entry
 grown p e after grows = grown_by p e (step e.moment e.command p.office).0 (step e.moment e.command p.office).1 after grows
 
--- the reply to the command behind as many
+-- the reply to the command after as many
 abbrev pub reply_at : ℕ → ℕ → Result Reply Refusal
 reply_at number n = let e = entry_at_place number n in (step e.moment e.command (progress number n).office).1
 

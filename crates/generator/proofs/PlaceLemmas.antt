@@ -1,4 +1,4 @@
--- Places behind commands.
+-- Places after commands.
 use Rattle.std.proofs.Common.{◌≡◌, ℕ, zero, suc, ◌+◌, ◌%◌, ◌≤◌, min, Bool, true, false, cond, refl, ap, sym, ◌∙◌, subst, arith}
 use Rattle.std.specs.Prelude.{nat_lt}
 use Rattle.moments.specs.Time.{last_moment}
@@ -6,7 +6,7 @@ use Rattle.generator.specs.Draws.{draw, state_after}
 use Rattle.generator.specs.Places.{place_before, next_place, kind_drawn, draws_of, place_after}
 use Rattle.generator.specs.declared.place.Place.{Place}
 
--- the place behind one of the first commands, or another one
+-- the place after one of the first commands, or another one
 first_place : Place → Place
 first_place place = record place { made = place.made + 1 }
 
@@ -45,7 +45,7 @@ later_next : (place : Place) → place.moment ≤ last_moment → place.moment �
 unfolding first_place later_place
 later_next place within = later_by (nat_lt place.made 8) place within
 
--- ---- behind as many commands
+-- ---- after as many commands
 
 pub made_after : (number n : ℕ) → (place_after number n).made ≡ n
 unfolding place_after
@@ -62,7 +62,7 @@ pub later_after : (number n : ℕ) → (place_after number n).moment ≤ (place_
 unfolding place_after
 later_after number n = later_next (place_after number n) (within_after number n)
 
--- a place behind some commands, and the next one
+-- a place after some commands, and the next one
 pub after_next : (number : ℕ) (old new : Place) → old ≡ place_after number old.made → new ≡ next_place old → new ≡ place_after number new.made
 unfolding place_after
 after_next number old new stands is =

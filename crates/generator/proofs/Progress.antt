@@ -28,7 +28,7 @@ pub progress_none : (number : ℕ) → progress number 0 ≡ at_first
 unfolding after_entries generated
 progress_none number = refl
 
--- the command behind as many
+-- the command after as many
 abbrev pub entry_at_place : ℕ → ℕ → Entry
 entry_at_place number n = entry_behind (place_after number n)
 

@@ -1,4 +1,4 @@
--- The commands of the generator, of which buckets and keys are numbers in a draft and names in the command.
+-- The commands of the generator. Buckets and keys are numbers in a draft, and names in the command.
 use Rattle.std.specs.Prelude.{ℕ, zero, suc, List, [], ◌∷◌, ◌++◌, map, codes, decimal, true, false, Some, None}
 use Rattle.class_rules.specs.declared.class.Class.TheVariants.{Standard, StandardIa}
 use Rattle.office_base.specs.declared.version_id.VersionId.{VersionId}
@@ -47,7 +47,7 @@ rule_named name = record {
   abort_days = None;
 }
 
--- the configuration that a load sets: this rule alone, which moves no object below 128 KiB
+-- the configuration that a load sets: only this rule, which moves no object below 128 KiB
 abbrev pub rules_set : Configuration
 rules_set = record { rules = rule_named (codes "rule-1") ∷ []; mode = All128K }
 

@@ -1,4 +1,4 @@
--- A load: the commands that are generated of a number, and what the plain office makes of them.
+-- A load: the commands that are generated from a number, and what the plain office does with them.
 use Rattle.std.specs.Prelude.{ℕ, zero, suc, ◌+◌, List, [], ◌∷◌, ◌++◌, length, Result, Ok, Err}
 use Rattle.office_types.specs.declared.command.Entry.{Entry}
 use Rattle.office_types.specs.declared.reply.Reply.{Reply}
@@ -15,18 +15,18 @@ use Rattle.generator.specs.Places.{draft_at, next_place, place_after}
 use Rattle.generator.specs.declared.place.Place.{Place}
 use Rattle.generator.specs.declared.tally.Tally.{Tally}
 
--- the command behind a place, at its moment
+-- the command after a place, at its moment
 abbrev pub entry_behind : Place → Entry
 entry_behind place = entry_at (next_place place).moment (draft_command (draft_at place))
 
--- the commands of a number, this many
+-- the first commands that are generated from a number, this many
 unfoldable pub generated : ℕ → ℕ → List Entry
 generated number zero = []
 generated number (suc n) = generated number n ++ entry_behind (place_after number n) ∷ []
 
 -- ---- what comes of them
 
--- the office behind some commands, those that it accepted, and how many it refused and how many acts found nothing due
+-- the office after some commands, those that it accepted, how many it refused, and how many acts found nothing due
 pub record Progress : Type 0 where
   pub office : Office
   pub accepted : List Entry
@@ -37,26 +37,26 @@ pub record Progress : Type 0 where
 abbrev pub at_first : Progress
 at_first = record { office = empty_office; accepted = []; refused = 0; nothing = 0 }
 
--- one more, which the office answers so
+-- the progress after one more command with this answer
 abbrev pub noted : Progress → Entry → Office → Result Reply Refusal → Progress
 noted progress entry office (Err refusal) = record progress { office = office; refused = progress.refused + 1 }
 noted progress entry office (Ok NothingDue) = record progress { office = office; nothing = progress.nothing + 1 }
 noted progress entry office (Ok reply) =
     record progress { office = office; accepted = progress.accepted ++ entry ∷ [] }
 
--- what comes of one more command, which the plain office answers at its moment
+-- the progress after one more command, which the plain office answers at its moment
 unfoldable pub after_entry : Progress → Entry → Progress
 after_entry progress entry =
     let done = step entry.moment entry.command progress.office in noted progress entry done.0 done.1
 
--- what comes of these commands, one after another
+-- the progress after these commands, one after another
 unfoldable pub after_entries : Progress → List Entry → Progress
 after_entries progress [] = progress
 after_entries progress (entry ∷ entries) = after_entries (after_entry progress entry) entries
 
 -- ---- the counts
 
--- the counts of as many commands: the journal file ends with the gate behind the entries of those accepted
+-- the counts of this many commands; the journal file ends with the gate after the entries of the accepted ones
 abbrev pub counts : ℕ → Progress → Tally
 counts made end = record {
   made = made;
@@ -68,10 +68,10 @@ counts made end = record {
   journal = end_gate header end.accepted + 1;
 }
 
--- what comes of as many commands of a number
+-- the progress after this many commands of a number
 abbrev pub progress : ℕ → ℕ → Progress
 progress number count = after_entries at_first (generated number count)
 
--- the counts of a load: of as many commands of a number
+-- the counts of a load: of this many commands of a number
 abbrev pub tally : ℕ → ℕ → Tally
 tally number count = counts count (progress number count)

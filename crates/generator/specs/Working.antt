@@ -27,20 +27,20 @@ pub record HoldsSoundly {D C : Type 0} (d : disks.Ghosts D) (history : List Entr
   pub journal : HoldsHistory d history desk
   pub slots : SlotsFit history (d.state desk.disk)
 
--- the desk holds the journal of these entries, and its clock has told the number and as many moments behind it
+-- the desk holds the journal of these entries, and its clock has returned the number and then this many moments
 pub record IsDeskAfter (number told : ℕ) (history : List Entry) (desk : DeskView MemoryDisk PlaceClock) : Type 0 where
   pub holds : HoldsSoundly memory.ghosts history desk
   pub fresh : desk.stale ≡ false
   pub number_is : desk.clock.number ≡ number
   pub told_is : desk.clock.place.made ≡ told
 
--- the commands were answered so
+-- the answers are counted as the progress counts them
 pub record AreAnswers (answers : AnswerCounts) (progress : Progress) : Type 0 where
   pub accepted : answers.accepted ≡ length progress.accepted
   pub refused : answers.refused ≡ progress.refused
   pub nothing : answers.nothing ≡ progress.nothing
 
--- one more was answered so
+-- one more answer is counted
 abbrev pub IsCounted : AnswerCounts → Result Reply Refusal → AnswerCounts → Type 0
 IsCounted old (Err refusal) new = new ≡ record old { refused = old.refused + 1 }
 IsCounted old (Ok NothingDue) new = new ≡ record old { nothing = old.nothing + 1 }
@@ -54,21 +54,21 @@ pub record IsWork (work : Work) : Type 0 where
 
 -- ---- what is kept
 
--- of a bucket that may be there; one that is not holds nothing
+-- what a bucket has, by a count; 0 if the bucket is not there
 abbrev pub counts_of : (BucketRecord → ℕ) → Option Account → ℕ
 counts_of count None = 0
 counts_of count (Some account) = count account.bucket
 
--- of one of the buckets
+-- what one of the buckets has
 abbrev pub counted_in : (BucketRecord → ℕ) → ℕ → Office → ℕ
 counted_in count bucket office = counts_of count (at_name (name_of bucket) office.accounts)
 
--- in the first buckets, this many
+-- what the first buckets have together, this many
 abbrev pub counted_in_first : (BucketRecord → ℕ) → ℕ → Office → ℕ
 counted_in_first count zero office = 0
 counted_in_first count (suc n) office = counted_in_first count n office + counted_in count n office
 
--- of the unfinished uploads of a bucket, how many there are
+-- how many unfinished uploads a bucket has
 abbrev pub upload_count : BucketRecord → ℕ
 upload_count bucket = length bucket.uploads
 
@@ -78,7 +78,7 @@ shown_in (Ok (BucketShown bucket rules uploads versioning versions)) = (versions
 shown_in (Ok reply) = (0, 0)
 shown_in (Err refusal) = (0, 0)
 
--- behind these commands the first buckets hold so much, and there the journal ends
+-- after these commands the first buckets have these versions and uploads; if there is a bucket, the journal ends here
 pub record AreKept (buckets : ℕ) (progress : Progress) (kept : Kept) : Type 0 where
   pub versions : kept.versions ≡ counted_in_first version_count buckets progress.office
   pub uploads : kept.uploads ≡ counted_in_first upload_count buckets progress.office

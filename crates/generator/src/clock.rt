@@ -5,7 +5,7 @@ ghost use Rattle.generator.specs.Places.{place_after};
 use crate::place::Place;
 use desk_core::Clock;
 
-// A clock that has told the number that commands are drawn from, and then tells the moment of each.
+// A clock that first returns the number that commands are drawn from, and then the moment of each.
 #[derive(Drop)]
 pub(crate) struct PlaceClock {
     number: u64,

@@ -10,7 +10,7 @@ use rules_core::{Expiration, Filter, Noncurrent, Rule, RuleSet, SizeMode, Transi
 use std::alloc::{AllocError, Global};
 use tariff::{BoxedTariff, Tariff};
 
-// A command in numbers. Buckets and keys are told apart by a number.
+// A command in numbers. Buckets and keys are numbers.
 #[derive(Clone, Copy)]
 pub(crate) enum Draft {
     CreateBucket {
@@ -34,7 +34,7 @@ pub(crate) enum Draft {
         bucket: u64,
         key: u64,
     },
-    // Of the version with this number; 0 stands for the null version.
+    // Deletes the version with this number; 0 stands for the null version.
     DeleteVersion {
         bucket: u64,
         key: u64,
@@ -59,7 +59,7 @@ pub(crate) enum Draft {
     },
 }
 
-// A text of these letters and a number behind them.
+// A text of these letters and a number after them.
 fn numbered(alloc: Global, letters: &str, number: u64) -> Result<String, AllocError>
     ensures { IfOk result (λ text. string_bytes text ≡ letters.now ++ decimal number) }
 {

@@ -7,12 +7,12 @@ use crate::work::Work;
 use office_base::NoMemory;
 use std::alloc::Global;
 
-/// Makes the commands that are generated of a number, this many, on a new office over a disk in memory, and counts what
-/// came of them.
+/// Makes this many commands, generated from a number, on a new office over a disk in memory, and counts what came of
+/// them.
 ///
 /// Own rule: the same number gives the same commands and the same counts, whatever runs them. The journal's limit is
 /// 1,073,741,824 bytes, and the clock starts at 2024-01-01 00:00 UTC.
-/// Cost: for each command that of the office and of the journal; the disk in memory keeps each of its calls.
+/// Cost: for each command, that of the office and of the journal; the disk in memory keeps each of its calls.
 ///
 /// # Errors
 ///

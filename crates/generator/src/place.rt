@@ -1,4 +1,4 @@
-// Where the generator stands between two commands.
+// Where the generator is between two commands.
 ghost use Rattle.std.specs.Prelude.{◌≡◌, ◌<◌, ◌-◌, ◌^◌, ℕ};
 ghost use Rattle.generator.specs.Draws.{draw, next_state, state_after};
 ghost use Rattle.generator.specs.Places.{place_before, class_ranked, first_draft, draft_of};
@@ -128,7 +128,7 @@ impl Place {
         }
     }
 
-    // Goes on behind the next command, and gives it.
+    // Goes to the place after the next command, and returns the command.
     pub(crate) fn next(&mut self) -> Draft
         requires { self.old.made < 2 ^ 64 - 1 }
         ensures draft { result ≡ draft_at self.old }

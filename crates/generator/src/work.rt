@@ -73,7 +73,7 @@ pub(crate) struct Work {
     answers: AnswerCounts,
 }
 
-// Asks a desk that is not stale. One over a disk that does not fail lacks nothing but memory.
+// Asks a desk that is not stale. Over a disk that does not fail, only memory can run out.
 fn ask<D: Disk + Drop, C: Clock + Drop>(desk: &mut Desk<D, C>, ask: &Ask) -> Result<Acked, NoMemory>
     ensures answers { IsTrue D.honest → (history : List Entry) → HoldsSoundly D.Disk history desk.old
         → desk.old.stale ≡ false
