@@ -9,7 +9,7 @@ use Rattle.bill_book.specs.declared.bill.Bill.{Bill}
 abbrev pub total_of : List Bill → ℕ
 total_of bills = sum_by (λ (bill : Bill). bill.total) bills
 
--- each bucket has one bill, and they stand in byte order of the buckets
+-- each bucket has one bill, and the bills are in byte order of the buckets
 abbrev pub RiseByBucket : List Bill → Type 0
 RiseByBucket [] = Unit {0}
 RiseByBucket (bill ∷ bills) =

@@ -1,4 +1,4 @@
--- What a keeper of bills has of each month, and what its calls make of that.
+-- What a keeper of bills has of each month, and what its calls do to that.
 use Rattle.std.specs.Prelude.{◌≡◌, ◌⊎◌, ℕ, List, Option, Some, None, option_map, IsSome, Result, Ok, Err}
 use Rattle.std.specs.Global.{Vec}
 use Rattle.bill_book.specs.declared.bill.Bill.{Bill}
@@ -7,7 +7,7 @@ use Rattle.bill_book.specs.declared.keeper.Posted.TheVariants.{Now, Before}
 use Rattle.bill_book.specs.declared.keeper.KeeperFault.{KeeperFault}
 use Rattle.bill_book.specs.declared.keeper.KeeperFault.TheVariants.{Failed, NoMemory}
 
--- the bills of each month, by its number; none where it was not posted
+-- the bills of each month, by its number; none if it was not posted
 abbrev pub Book : Type 0
 Book = ℕ → Option (List Bill)
 
@@ -28,13 +28,13 @@ Posts month bills old new (Ok Before) = IsSome (old month) × IsSameBook old new
 Posts month bills old new (Err Failed) = IsSameBook old new ⊎ AddsMonth month bills old new
 Posts month bills old new (Err NoMemory) = IsSameBook old new
 
--- what is read of a month is what the book has of it, and the book stays
+-- reading a month returns what the book has of it, and the book stays
 abbrev pub Shows : ℕ → Book → Book → Result (Option (Vec Bill)) KeeperFault → Type 0
 Shows month old new (Ok bills) = (option_map (λ (v : Vec Bill). v.items) bills ≡ old month) × IsSameBook old new
 Shows month old new (Err _) = IsSameBook old new
 
--- A keeper that tells its book after a call told it before, and this holds between the two. Nothing is said where it
--- does not tell it then.
+-- If a keeper shows its book after a call, it showed it before, and this holds between the two. If it does not show its
+-- book after the call, nothing is said.
 abbrev pub Told : Option Book → Option Book → (Book → Book → Type 0) → Type 0
 Told (Some old) (Some new) P = P old new
 Told None (Some new) P = ⊥

@@ -24,8 +24,8 @@ map_failing k = k.failing.items
 abbrev pub map_calls : MapKeeper → ℕ
 map_calls k = k.calls
 
--- one call: it is counted, it fails exactly if its number is among those that are to fail, and the book stays unless it
--- was done
+-- one call: it is counted, it fails if and only if its number is among those that are to fail, and the book stays
+-- unless the call was done
 pub record IsKeeperCall {T : Type 0} (old new : MapKeeper) (result : Result T KeeperFault) : Type 0 where
   pub failing : map_failing new ≡ map_failing old
   pub counted : map_calls new ≡ min (map_calls old + 1) (2 ^ 64 - 1)

@@ -27,7 +27,7 @@ pub enum KeeperFault {
 
 /// A book of bills: a month that was posted has a list of bills, one for each bucket, and every other month has none.
 pub trait BillKeeper {
-    /// The bills of each month, where the keeper tells them.
+    /// The bills of each month, if the keeper shows them.
     ghost book: { Self → Option Book };
 
     /// How often it failed.
@@ -37,14 +37,14 @@ pub trait BillKeeper {
     ///
     /// # Errors
     ///
-    /// `Failed`: the book is as before, or the month was posted all the same, and the count of faults rose.
+    /// `Failed`: the count of faults rose; the book is as before, or the month was posted all the same.
     /// `NoMemory`: the book is as before.
     fn post(&mut self, month: Month, bills: &[Bill]) -> Result<Posted, KeeperFault>
         requires bills { AreBills bills.now }
         ensures posts { Told (book self.old) (book self.new) (λ old new. Posts month bills.now old new result) }
         ensures cause { HasKeeperCause (faults self.old) (faults self.new) result };
 
-    /// Reads the bills of a month; None where it was not posted. The book stays as it is.
+    /// Reads the bills of a month; None if it was not posted. The book stays as it is.
     ///
     /// # Errors
     ///
