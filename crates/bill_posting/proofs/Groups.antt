@@ -41,7 +41,7 @@ module _ (name : List ℕ) (tally : Tally) where
       let same = f (sym (ap is_some other) ∙ there) in
       omega (arith, same)
 
-  -- none more where the name has one
+  -- none more if the name has one
   same_with : (es : Tallies) → Rises bytes_cmp es → is_some (at_name name es) ≡ true → length (with_name name tally es) ≡ length es
   same_with [] rises there = absurd cc
   same_with (e ∷ es) rises there = same_at (bytes_cmp name e.0) e es (with_name name tally es) refl rises.0 there (same_with es rises.1)

@@ -8,7 +8,7 @@ abbrev pub is_same_bill : Bill → Bill → Bool
 is_same_bill kept asked =
     bytes_eq kept.bucket asked.bucket && (kept.total == asked.total) && (kept.lines == asked.lines)
 
--- the first pair of bills at one place that differ, none for a missing one; none where the lists are equal
+-- the first pair of bills at one place that differ, with none for a missing one; none if the lists are equal
 abbrev pub first_difference : List Bill → List Bill → Option (Option Bill × Option Bill)
 first_difference [] [] = None
 first_difference (kept ∷ _) [] = Some (Some kept, None)

@@ -37,8 +37,8 @@ pub record PostsFirst (month : ℕ) (bills : List Bill) (old : Book) (calls : Li
   pub posted : next month ≡ Some bills
   pub goes_on : LeadTo next after new
 
--- What calls make of a month: the bills that it had stay; where it had none, it has those of the first call that posted
--- it, or none where no call did; and every call that was done was asked for the bills that it has.
+-- What calls do to a month. The bills that it had stay. If it had none, it has those of the first call that posted it,
+-- or none if no call did. Every call that was done was asked for the bills that the month has.
 pub record ActsOnce (month : ℕ) (old : Book) (calls : List Call) (new : Book) : Type 0 where
   pub stays : (bills : List Bill) → old month ≡ Some bills → new month ≡ Some bills
   pub first : old month ≡ None → (new month ≡ None)

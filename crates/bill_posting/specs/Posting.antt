@@ -18,8 +18,8 @@ pub record IsReceiptOf (bills : List Bill) (receipt : Receipt) : Type 0 where
   pub count : receipt.bills ≡ length bills
   pub total : receipt.total ≡ total_of bills
 
--- What posting these bills for a month does to the book, by its answer: the month is posted where it was not; where it
--- has these bills, nothing is changed; and where it has others, they stay, and the first difference is told.
+-- What posting these bills for a month does to the book, by its answer. If the month was not posted, it is posted. If
+-- it has these bills, nothing changes. If it has others, they stay, and the first difference is reported.
 abbrev pub DoesPost : ℕ → List Bill → Book → Book → Result Receipt PostFault → Type 0
 DoesPost month bills old new (Ok receipt) =
     ((receipt.before ≡ false) × AddsMonth month bills old new)
@@ -30,23 +30,23 @@ DoesPost month bills old new (Err (OtherBills kept asked)) =
 DoesPost month bills old new (Err KeeperFault) = IsSameBook old new ⊎ AddsMonth month bills old new
 DoesPost month bills old new (Err NoMemory) = IsSameBook old new
 
--- a fault of the keeper is told as such
+-- the fault of posting that a fault of the keeper becomes
 abbrev pub post_fault : keepers.KeeperFault → PostFault
 post_fault keeper_fault.Failed = KeeperFault
 post_fault keeper_fault.NoMemory = NoMemory
 
--- the count never falls, a fault of the keeper is told only where it rose, and it stands still where a month was posted
+-- the count never falls; a fault of the keeper is reported only if it rose; if a month was posted, it is as before
 pub record HasPostCause {T : Type 0} (before now : ℕ) (result : Result T PostFault) : Type 0 where
   pub later : before ≤ now
   pub failed : IsErrOf result KeeperFault → Rose before now
   pub quiet : OnOk result (now ≡ before)
 
--- the bills that the book has of the month are read, none where it has not the month, and the book stays
+-- the bills that the book has of the month are read, none if the month was not posted; the book stays
 abbrev pub ReadsKept : {E : Type 0} → ℕ → Book → Book → Result (Vec Bill) E → Type 0
 ReadsKept month old new (Ok bills) = (bills.items ≡ unwrap_or (old month) []) × IsSameBook old new
 ReadsKept month old new (Err _) = IsSameBook old new
 
--- the bills are equal, or the first difference is told
+-- the bills are equal, or the first difference is reported
 abbrev pub Compares : List Bill → List Bill → Result (Unit {0}) PostFault → Type 0
 Compares kept asked (Ok _) = kept ≡ asked
 Compares kept asked (Err (OtherBills one other)) = first_difference kept asked ≡ Some (one, other)

@@ -78,7 +78,7 @@ fn fault_of(fault: KeeperFault) -> PostFault
     }
 }
 
-// Reads the bills that a keeper has of a month; none where it has not the month.
+// Reads the bills that a keeper has of a month; none if the month was not posted.
 fn kept_of<K: BillKeeper>(
     alloc: Global,
     keeper: &mut K,

@@ -3,7 +3,7 @@ use Rattle.std.specs.Vec.Iter.{into_iter_items}
 use Rattle.bill_posting.specs.Differences.{first_difference}
 use Rattle.bill_posting.proofs.posting.first_difference.Given as goal
 
--- the bills that are left differ where all do
+-- the bills that are left differ if all do
 abbrev pub invariant-loop-kept : goal.invariant-loop-kept
 invariant-loop-kept l =
     (goal.iterator-loop-kept).can_next l.kept-iterator ×
