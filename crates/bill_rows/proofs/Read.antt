@@ -113,7 +113,7 @@ module _ (month : List ℕ) (rows answer : List Row) (it : IsMonth month rows an
           tidy true false = refl
           tidy false b = refl
 
-    -- the rows with a bucket are those behind the header
+    -- the rows with a bucket are those after the header
     rest_count : (p : Bill → Bool) (rs : List Row) → AllByRecursion NamesBucket rs → count_by (λ r. not (no_bucket r) && p (answer_bill r)) rs ≡ count_by p (map answer_bill rs)
     rest_count p [] all = refl
     rest_count p (r ∷ rs) all =

@@ -36,7 +36,7 @@ bill_of bucket total lines =
 abbrev pub bill_in : Row → Bill
 bill_in row = bill_of (column row 2) (column row 3) (column row 4)
 
--- with a bill before the first that is not before it in byte order of the bucket
+-- the bills with this one before the first whose bucket is not before its own in byte order
 abbrev pub with_bill : Bill → List Bill → List Bill
 with_bill bill [] = bill ∷ []
 with_bill bill (other ∷ others) =

@@ -29,14 +29,14 @@ PutsBills month [] before after = after ≡ before
 PutsBills month (bill ∷ bills) before after =
     (between : List Row) × PutsBill month bill before between × PutsBills month bills between after
 
--- the month is put in where it has no header, with its bills behind the header; and else nothing is
+-- the month is put in if it has no header, with its bills after the header; else nothing is put in
 abbrev pub PutsMonth : List ℕ → List ℕ → ℕ → List Bill → Bool → List Row → List Row → Type 0
 PutsMonth month total count bills true before after =
     (has_header month before ≡ false)
     × ((between : List Row) × PutsRow month [] total (pos count) before between × PutsBills month bills between after)
 PutsMonth month total count bills false before after = (has_header month before ≡ true) × (after ≡ before)
 
--- what the first statement makes of the rows: the header is put in where the month has none, and one row is counted
+-- what the first statement does to the rows: it puts the header in if the month has none, and then counts one row
 abbrev pub IsHeaderPut : List ℕ → List ℕ → ℤ → ℕ → List Row → List Row → Type 0
 IsHeaderPut month total lines written before after =
     MatchBool (has_header month before) ((written ≡ 0) × (after ≡ before))

@@ -60,7 +60,7 @@ bills_schema = record {
 abbrev pub create_text : List ℕ
 create_text = codes "CREATE TABLE bills(month TEXT NOT NULL, bucket TEXT NOT NULL, total TEXT NOT NULL, lines INTEGER NOT NULL, PRIMARY KEY(month, bucket)) STRICT"
 
--- puts a month's header in, where it has none
+-- puts a month's header in, if it has none
 abbrev pub header_text : List ℕ
 header_text = codes "INSERT INTO bills(month, bucket, total, lines) VALUES (?1, '', ?2, ?3) ON CONFLICT(month, bucket) DO NOTHING"
 

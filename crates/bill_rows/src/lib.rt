@@ -35,7 +35,7 @@ pub fn a_month_is_added()
         → IsWellMade after }
 {}
 
-/// States that what is read of a month is what the rows have of it: its bills, and nothing exactly where it has no
+/// States that what is read of a month is what the rows have of it: its bills, and nothing if and only if it has no
 /// header.
 #[tactic(auto, using(crate::proofs::Read::absent_read))]
 pub fn a_month_is_read()
@@ -47,7 +47,7 @@ pub fn a_month_is_read()
         → has_header month rows ≡ false }
 {}
 
-/// States that a month of which one row is read once its header is put in had no row before, and that the bills put in
+/// States that a month had no row before its header was put in, if one row of it is read after that. The bills put in
 /// for a month without rows are all that it has then, whatever the other rows of the table are.
 pub fn a_month_stands_alone()
     ensures none { (month total : List ℕ) (count : ℕ) (before between answer : List Row)
