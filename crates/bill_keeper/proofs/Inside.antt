@@ -53,7 +53,7 @@ keeps_itself s = record { was_open = λ h. h; committed = λ _. refl }
 pub keeps_then : (a b c : State) → KeepsCommit a b → KeepsCommit b c → KeepsCommit a c
 keeps_then a b c p q = record { was_open = λ h. p.was_open (q.was_open h); committed = λ h. q.committed h ∙ p.committed (q.was_open h) }
 
--- a bill behind the others
+-- a bill after the others
 pub bills_more : (month : List ℕ) (bills : List Bill) (bill : Bill) (a b c : List Row) → PutsBills month bills a b → PutsBill month bill b c → PutsBills month (bills ++ bill ∷ []) a c
 bills_more month [] bill a b c puts then = (c, subst (λ (rows : List Row). PutsBill month bill rows c) puts then, refl)
 bills_more month (x ∷ xs) bill a b c puts then = (puts.0, puts.1, bills_more month xs bill puts.0 b c puts.2 then)

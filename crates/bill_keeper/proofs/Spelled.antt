@@ -17,7 +17,7 @@ map_push : {X Y : Type 0} (f : X → Y) (xs : List X) (x : X) → map f (xs ++ x
 map_push f [] x = refl
 map_push f (y ∷ ys) x = ap (λ l. f y ∷ l) (map_push f ys x)
 
--- one more item, behind those so far
+-- one more item, after those so far
 pub map_more : {X Y : Type 0} (f : X → Y) (xs : List X) (i : ℕ) (x : X) (y : Y) (ys : List Y) → i < length xs → x ≡ get_or xs i x → y ≡ f x → ys ≡ map f (take i xs)
     → ys ++ y ∷ [] ≡ map f (take (i + 1) xs)
 map_more f xs i x y ys within is made so_far =

@@ -1,4 +1,4 @@
--- The book that is told, before and after a call.
+-- The book that a keeper shows, before and after a call.
 use Rattle.std.proofs.Common.{◌≡◌, ◌⊎◌, inl, inr, ℕ, ◌+◌, ◌<◌, ◌≤◌, ◌^◌, List, [], ◌∷◌, length, refl, ap, sym, ◌∙◌, subst, Bool, true, false, ◌&&◌, cond, Option, Some, None, Result, Ok, Err, IfOk, IsTrue, arith}
 use Rattle.std.specs.Prelude.{option_map, if◌then◌else◌, IsSome, decimal}
 use Rattle.std.specs.Global.{Vec}

@@ -6,13 +6,13 @@ use Rattle.sqlite_value.specs.contracts.row.Row.{the_row}
 use Rattle.bill_keeper.specs.declared.places.Place.{Place}
 use Rattle.bill_keeper.specs.declared.places.Place.TheVariants.{Handed, Own}
 
--- whether it was made over a connection that was handed in, the rows that it tells, and how often it failed
+-- whether it was made over a connection that was handed in, the rows that it shows, and how often it failed
 pub record KeeperView : Type 0 where
   pub is_over : Bool
   pub rows : Option (List Row)
   pub faults : ℕ
 
--- by which two of them are told apart
+-- the code that tells two of these views apart
 pub keeper_code : Coded KeeperView
 keeper_code =
     code_by (Bool × (Option (List Row) × ℕ))
@@ -26,7 +26,7 @@ abbrev pub is_handed : {H O : Type 0} → Place H O → Bool
 is_handed (Handed it) = true
 is_handed (Own it) = false
 
--- the rows that a handed-in connection tells; a file of the keeper's own tells none
+-- the rows that a handed-in connection shows; a file of the keeper's own shows none
 abbrev pub told_by : {H O : Type 0} → Place H O → (H → Option (List Row)) → Option (List Row)
 told_by (Handed it) tell = tell it
 told_by (Own it) tell = None

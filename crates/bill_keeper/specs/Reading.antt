@@ -1,4 +1,4 @@
--- What reading the rows of a month tells.
+-- What reading the rows of a month returns.
 use Rattle.std.specs.Prelude.{◌≡◌, pos, decimal, List, [], ◌∷◌, length, Option, Some, None}
 use Rattle.std.specs.Global.{Vec}
 use Rattle.std.specs.List.{AllByRecursion}
@@ -35,7 +35,7 @@ pub record AreMade (rows : List Row) (bills : List Bill) : Type 0 where
   pub agrees : IsHeaderOf header bills
   pub written : AllByRecursion IsWritten rest
 
--- the bills of a month are read out of its rows, which are well made; none where it has no rows
+-- the bills of a month are read out of its rows, which are well made; none if it has no rows
 abbrev pub ReadsBills : List Row → Option (Vec Bill) → Type 0
 ReadsBills rows None = rows ≡ []
 ReadsBills rows (Some bills) = AreRead rows bills.items × AreMade rows bills.items

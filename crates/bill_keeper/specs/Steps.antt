@@ -8,11 +8,11 @@ use Rattle.bill_book.specs.declared.bill.Bill.{Bill}
 use Rattle.bill_rows.specs.Rows.{bills_schema, in_month, IsMonth}
 use Rattle.bill_rows.specs.Puts.{PutsMonth}
 
--- The connection shows the table of bills alone.
+-- The schema of the connection is only the table of bills.
 abbrev pub IsOurs : State → Type 0
 IsOurs s = s.now.schema ≡ bills_schema
 
--- a step within a transaction commits nothing, and where it is done it makes this of the rows of the table
+-- a step within a transaction commits nothing; if it is done, it makes this of the rows of the table
 pub record Works {T : Type 0} (old new : State) (r : Result T Error) (rows : T → List Row → List Row → Type 0) : Type 0
   where
     pub kept : KeepsCommit old new
@@ -23,12 +23,12 @@ pub record Works {T : Type 0} (old new : State) (r : Result T Error) (rows : T �
 abbrev pub WorksBy : {T : Type 0} → State → State → Result T Error → (T → List Row → List Row → Type 0) → Type 0
 WorksBy old new r rows = HasCleanDisk new → IsTrue old.in_transaction → Works old new r rows
 
--- the month is put in where it has no row, and stays where it has its header
+-- the month is put in if it has no row; a month that has its header stays
 abbrev pub PostsMonth : List ℕ → List ℕ → ℕ → List Bill → Bool → List Row → List Row → Type 0
 PostsMonth month total count bills now before after =
     PutsMonth month total count bills now before after × (IsTrue now → filter (in_month month) before ≡ [])
 
--- what posting a month makes of the rows, by its answer; where it failed, nothing
+-- what posting a month makes of the rows, by its answer; nothing if it failed
 abbrev pub LeavesRows : List ℕ → List ℕ → ℕ → List Bill → List Row → List Row → Result Bool Error → Type 0
 LeavesRows month total count bills before after (Ok now) = PostsMonth month total count bills now before after
 LeavesRows month total count bills before after (Err _) = after ≡ before

@@ -66,7 +66,7 @@ fn read_text<S: Alter>(
     read_rows(conn, text)
 }
 
-/// A refused statement is a fault of the keeper, unless it was that memory ran out.
+/// A refused statement is a fault of the keeper, unless memory ran out.
 pub(crate) fn fault_of(error: Error) -> KeeperFault
     ensures { result ≡ KeeperFault.NoMemory → error ≡ Error.SqliteFailure ErrorCode.OutOfMemory }
 {
@@ -112,7 +112,7 @@ pub(crate) fn post_in<S: Alter>(
     }
 }
 
-/// Reads the bills of a month; None where it was not posted.
+/// Reads the bills of a month; None if it was not posted.
 pub(crate) fn read_in<S: Alter>(
     conn: &mut Connection<S>,
     alloc: Global,

@@ -7,7 +7,7 @@ use crate::month_table::fault_of;
 use bill_book::KeeperFault;
 use sqlite::{Alter, Connection, Error, ErrorCode, File, FileStore};
 
-// Makes the table of bills where there is none.
+// Makes the table of bills if there is none.
 fn make_table<S: Alter>(conn: &mut Connection<S>) -> Result<(), Error>
     ensures idle { IfOk result (λ _. conn.new.in_transaction ≡ false) }
 {
@@ -62,7 +62,7 @@ fn open_at(rt: &HostRuntime, path: &str) -> Result<Connection<FileStore<File>>, 
     Ok(conn)
 }
 
-/// Opens the database in the file at this path, outside a transaction. The file and the table are made where there are
+/// Opens the database in the file at this path, outside a transaction. The file and the table are made if there are
 /// none.
 pub(crate) fn open_file(
     rt: &HostRuntime,

@@ -1,4 +1,4 @@
-// The bills that rows of the table tell of.
+// The bills that rows of the table hold.
 ghost use Rattle.std.specs.Prelude.{◌≡◌, true, pos, map, IfOk, IfSome, string_bytes, [], ◌∷◌, ◌++◌, IsTrue, decimal};
 ghost use Rattle.std.specs.List.{AllByRecursion};
 ghost use Rattle.std.specs.Str.Parse.{digits_value};
@@ -17,7 +17,7 @@ use std::alloc::Global;
 /// Why rows were not read.
 #[derive(Clone, Copy, Debug, PartialEq, Eq)]
 pub(crate) enum RowFault {
-    /// A row has not its form, or the month's header is missing or does not agree with its bills.
+    /// A row does not have its form, or the month's header is missing or does not agree with its bills.
     Unreadable,
     /// Memory ran out.
     NoMemory,
@@ -120,7 +120,7 @@ pub(crate) fn rises(bills: &[Bill]) -> bool
     }
 }
 
-// Reads the bills in the rows behind the header.
+// Reads the bills in the rows after the header.
 fn all_bills(alloc: Global, rows: &[Row]) -> Result<Vec<Bill>, RowFault>
     ensures bills { IfOk result (λ bills. bills.items ≡ map answer_bill rows.now) }
     ensures named { IfOk result (λ _. AllByRecursion NamesBucket rows.now) }
@@ -134,7 +134,7 @@ fn all_bills(alloc: Global, rows: &[Row]) -> Result<Vec<Bill>, RowFault>
     Ok(bills)
 }
 
-// What bills come to; None where that is no u128.
+// What bills come to; None if that is no u128.
 pub(crate) fn sum_of(bills: &[Bill]) -> Option<u128>
     ensures { IfSome result (λ sum. sum ≡ total_of bills.now) }
 {
@@ -156,7 +156,7 @@ fn is_header_of(row: &Row, bills: &[Bill]) -> Result<bool, RowFault>
     Ok(bucket.is_empty() && sum_of(bills) == Some(total) && lines as usize == bills.len())
 }
 
-/// Reads the bills of a month out of its rows, of which the first is its header; None where it has no rows.
+/// Reads the bills of a month out of its rows, of which the first is its header; None if it has no rows.
 pub(crate) fn bills_of(alloc: Global, rows: &[Row]) -> Result<Option<Vec<Bill>>, RowFault>
     ensures { IfOk result (ReadsBills rows.now) }
 {

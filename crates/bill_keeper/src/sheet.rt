@@ -9,8 +9,8 @@ use crate::statements::put_month;
 use bill_book::Bill;
 use sqlite::{Alter, Connection, Error, Row, params};
 
-/// Puts a month in, with its bills, in one transaction, and tells whether it did; a month that has a header stays.
-/// Where it fails nothing is done.
+/// Puts a month in, with its bills, in one transaction, and returns whether it did. A month that has a header stays. If
+/// it fails, nothing is done.
 pub(crate) fn post_rows<S: Alter>(
     conn: &mut Connection<S>,
     month: &str,

@@ -123,7 +123,7 @@ fn read_at<S: Alter>(
     }
 }
 
-// Counts a fault, unless it was that memory ran out.
+// Counts a fault, unless memory ran out.
 fn counted(faults: &mut u64, fault: KeeperFault) -> KeeperFault
     ensures fault { result ≡ fault }
     ensures later { faults.old ≤ faults.new }
@@ -138,8 +138,8 @@ fn counted(faults: &mut u64, fault: KeeperFault) -> KeeperFault
 /// A book of bills in a table of SQLite: in a file of its own, which is opened at the first call, or over a connection
 /// that was handed in.
 ///
-/// Over a connection it tells its book, as long as the disk returns what was written and the connection is open. In a
-/// file of its own it tells nothing of what it holds.
+/// Over a connection it shows its book, as long as the disk returns what was written and the connection is open. In a
+/// file of its own it shows nothing of what it holds.
 #[derive(Drop)]
 pub struct SqliteKeeper<S: Alter> {
     place: Place<Handed<S>, OwnFile>,
@@ -164,7 +164,7 @@ impl<S: Alter> Model for SqliteKeeper<S> {
 }
 
 impl SqliteKeeper<FileStore<File>> {
-    /// Keeps the bills in the file at this path, which is opened at the first call and made where there is none.
+    /// Keeps the bills in the file at this path, which is opened at the first call, and made if there is none.
     pub fn at(rt: HostRuntime, path: String) -> SqliteKeeper<FileStore<File>>
         ensures { result ≡ record { is_over = false; rows = None; faults = 0 } }
     {
@@ -183,7 +183,7 @@ impl SqliteKeeper<FileStore<File>> {
 }
 
 impl<S: Alter> SqliteKeeper<S> {
-    /// Keeps the bills in the table of this connection, whose schema is that table alone, and whose rows are well made.
+    /// Keeps the bills in the table of this connection. Its schema is only that table, and its rows are well made.
     /// Takes no memory.
     pub fn over(alloc: Global, connection: Connection<S>) -> SqliteKeeper<S>
         requires idle { connection.in_transaction ≡ false }
@@ -207,7 +207,7 @@ impl<S: Alter> SqliteKeeper<S> {
         }
     }
 
-    /// Gives the connection back that was handed in. Takes no memory.
+    /// Returns the connection that was handed in. Takes no memory.
     pub fn give_back(self) -> Connection<S>
         requires handed { self.is_over ≡ true }
         ensures rows { told_rows (state S.Store result) ≡ self.rows }

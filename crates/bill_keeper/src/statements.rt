@@ -29,7 +29,7 @@ fn run_header<S: Alter>(
     )
 }
 
-// Puts the month's header in, where it has none, and gives how many rows it wrote.
+// Puts the month's header in, if it has none, and returns how many rows it wrote.
 fn put_header<S: Alter>(
     tx: &mut Transaction<'_, S>,
     month: &str,
@@ -134,8 +134,8 @@ fn put_bills<S: Alter>(
     Ok(())
 }
 
-// Puts the month in, with its bills, and tells whether it did; a month that has a header stays. Fails if the month has
-// rows and no header.
+// Puts the month in, with its bills, and returns whether it did; a month that has a header stays. Fails if the month
+// has rows and no header.
 pub(crate) fn put_month<S: Alter>(
     tx: &mut Transaction<'_, S>,
     month: &str,

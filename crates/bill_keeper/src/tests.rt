@@ -31,7 +31,7 @@ fn single(bill: Bill) -> Option<[Bill; 1]>
     }
 }
 
-// Whether the bills were posted by this call; None where the keeper failed.
+// Whether the bills were posted by this call; None if the keeper failed.
 fn post<K: BillKeeper>(keeper: &mut K, month: Month, bills: &[Bill]) -> Option<bool>
     requires { AreBills bills.now }
 {
@@ -42,7 +42,7 @@ fn post<K: BillKeeper>(keeper: &mut K, month: Month, bills: &[Bill]) -> Option<b
     }
 }
 
-// How many bills the month has and what the last of them comes to; None where the keeper failed.
+// How many bills the month has and what the last of them comes to; None if the keeper failed.
 fn read<K: BillKeeper>(keeper: &mut K, month: Month) -> Option<Option<(usize, u128)>> {
     match keeper.bills(month) {
         Ok(Some(bills)) => match bills.last() {
