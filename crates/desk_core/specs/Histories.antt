@@ -53,7 +53,7 @@ pub record Stands (history : List Entry) (images : Images) : Type 0 where
   pub slot0 : FitsHistory history images.slot0
   pub slot1 : FitsHistory history images.slot1
 
--- whatever a crash leaves stands for some history: the files were written by an office alone
+-- whatever a crash leaves stands for some history: only an office wrote the files
 abbrev pub IsSound : State → Type 0
 IsSound s = (images : Images) → AreImages s images → (history : List Entry) × Stands history images
 

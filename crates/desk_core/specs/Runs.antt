@@ -40,7 +40,7 @@ module _ {D : Type 0} (d : disks.Ghosts D) where
   pub record KeepsCalls (old new : D) (opened : Opened) (calls : List Call) (history : List Entry) : Type 0 where
     -- it began from the history of what the disk read at the entry
     pub read : HasAcceptedHistory opened.history (d.state old).journal.seen
-    -- which is the history of every image, where they have one in common
+    -- which is the history of every image, if they have one in common
     pub only : (first : List Entry)
         → ((image : List ℕ) → IsImage (d.state old).journal image → HasAcceptedHistory first image)
         → opened.history ≡ first
@@ -54,7 +54,7 @@ module _ {D : Type 0} (d : disks.Ghosts D) where
     pub serves : DiskServes d opened new calls
     -- no history is lost, but for a last entry
     pub steady : KeepsHistories opened new
-    -- at the return, where the desk is not stale
+    -- at the return, if the desk is not stale
     pub all : stale_by false calls ≡ false → (image : List ℕ) → IsImage (d.state new).journal image
         → HasAcceptedHistory history image
     -- up to the closing the files of checkpoints stay
@@ -62,7 +62,7 @@ module _ {D : Type 0} (d : disks.Ghosts D) where
     pub slots : KeepsTo d old closing (KeepsSlots (d.state old))
     -- from it on the journal file stays
     pub closed : KeepsTo d closing new (λ s. s.journal ≡ (d.state closing).journal)
-    -- at every moment the files are those of an office alone
+    -- at every moment the files are as only an office writes them
     pub sound : KeepsTo d old new IsSound
 
 -- what stands under an office: its disk and its clock
