@@ -14,18 +14,18 @@ use Rattle.http_wire.specs.declared.fields.Found.{Found}
 use Rattle.http_wire.specs.declared.fields.Found.TheVariants.{Absent, Once, Repeated}
 use Rattle.http_wire.specs.declared.framing.FramingRefusal.{FramingRefusal}
 
--- where the values of the fields of this name are
+-- the spans of the values of all fields of this name
 abbrev pub values_named : List ℕ → List ℕ → List HeaderSpan → List Span
 values_named bytes name headers =
     map (λ (h : HeaderSpan). h.value) (filter (λ (h : HeaderSpan). same_word (span_bytes bytes h.name) name) headers)
 
--- none, one or several
+-- whether there is no such field, one, or several
 abbrev pub found_of : List Span → Found
 found_of [] = Absent
 found_of (s ∷ []) = Once s
 found_of (s ∷ t ∷ spans) = Repeated
 
--- the body behind a head has so many bytes, or the head is refused whatever follows
+-- the body after a head has this many bytes, or the head is refused whatever follows
 abbrev pub Frames : RequestHead → Result ℕ FramingRefusal → Type 0
 Frames h (Ok size) =
     (fields_named (codes "Transfer-Encoding") h.fields ≡ [])
@@ -33,7 +33,7 @@ Frames h (Ok size) =
 Frames h (Err bad) =
     (after rest : List ℕ) → after_coding h after (fields_named (codes "Transfer-Encoding") h.fields) (refused bad) rest
 
--- A head stands at the front of the bytes, and its body has so many. Its fields that carry a token are told.
+-- The bytes begin with a head whose body has size bytes. found is the head's fields that carry a token.
 pub record HasFrame (bytes : List ℕ) (headers : List HeaderSpan) (spans : RequestSpans) (size : ℕ) (last : Bool)
     (found : Found) : Type 0 where
   pub head : RequestHead

@@ -1,4 +1,4 @@
--- What a heading says of what was read.
+-- What a heading says of the bytes that were read.
 use Rattle.std.specs.Prelude.{◌≡◌, ℕ, ◌<◌, ◌≤◌, List, [], length, Option, Result, Ok, Err, ⊤}
 use Rattle.std.specs.Io.KnownBytes.{IsAtEnd}
 use Rattle.httparse.specs.Spans.{IsRequestOf, IsRequestWithin}
@@ -8,7 +8,7 @@ use Rattle.httparse.specs.declared.spans.RequestSpans.{RequestSpans}
 use Rattle.http_wire.specs.declared.reading.Heading.{Heading}
 use Rattle.http_wire.specs.declared.reading.Heading.TheVariants.{Whole, Hopeless, TooLarge, CutShort, End}
 
--- P of the spans, where a whole head was found
+-- P of the spans, if a whole head was found
 abbrev pub OnHead : {E : Type 0} → Result Heading E → (RequestSpans → Type 0) → Type 0
 OnHead (Ok (Whole spans)) P = P spans
 OnHead (Ok Hopeless) P = ⊤
@@ -17,7 +17,7 @@ OnHead (Ok CutShort) P = ⊤
 OnHead (Ok End) P = ⊤
 OnHead (Err e) P = ⊤
 
--- what stands at the front of the bytes held, where the source has these left
+-- what the bytes held begin with, given what the source has left
 abbrev pub HasHeading : Held → Option (List ℕ) → Heading → Type 0
 HasHeading held left (Whole spans) =
     IsRequestOf held.bytes held.spans spans × IsRequestWithin held.bytes held.spans spans

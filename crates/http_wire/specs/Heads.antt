@@ -1,21 +1,21 @@
--- Where a request's head stands at the front of a stream, or can no longer stand.
+-- Whether some bytes begin with a request's head, may still become one, or cannot.
 use Rattle.std.specs.Prelude.{ℕ, ◌≤◌, List, take, ⊤, Bool, not, ◌==◌}
 use Rattle.httparse.specs.Grammar.{HasNoRequest, MayBecomeRequest}
 use Rattle.httparse.specs.declared.spans.RequestSpans.{RequestSpans}
 use Rattle.http_wire.specs.declared.head.Front.{Front}
 use Rattle.http_wire.specs.declared.head.Front.TheVariants.{Whole, Open, Hopeless}
 
--- no head begins the bytes, and no bytes that follow make them one
+-- the bytes do not begin with a head, and no bytes after them make them one
 pub record IsHopeless (bytes : List ℕ) : Type 0 where
   pub none : HasNoRequest bytes
   pub closed : ¬ (MayBecomeRequest bytes)
 
--- the bytes are no head yet, and may become one
+-- the bytes do not begin with a head yet, but bytes after them may make them one
 pub record IsOpen (bytes : List ℕ) : Type 0 where
   pub none : HasNoRequest bytes
   pub may : MayBecomeRequest bytes
 
--- some front of the bytes, of at most limit bytes, is hopeless
+-- one of the prefixes of the bytes, of at most limit bytes, is hopeless
 abbrev pub HasHopelessFront : ℕ → List ℕ → Type 0
 HasHopelessFront limit bytes = (n : ℕ) × (n ≤ limit) × IsHopeless (take n bytes)
 
@@ -23,7 +23,7 @@ HasHopelessFront limit bytes = (n : ℕ) × (n ≤ limit) × IsHopeless (take n 
 abbrev pub no_space : ℕ → Bool
 no_space b = not (b == 32)
 
--- P of the spans, where the whole head is there
+-- P of the spans, if the whole head is there
 abbrev pub OnWhole : Front → (RequestSpans → Type 0) → Type 0
 OnWhole (Whole spans) P = P spans
 OnWhole Open P = ⊤

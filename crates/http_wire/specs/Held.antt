@@ -3,17 +3,17 @@ use Rattle.std.specs.Prelude.{◌≡◌, ℕ, ◌+◌, ◌^◌, List, ◌++◌, 
 use Rattle.std.specs.Io.KnownBytes.{Consumes}
 use Rattle.httparse.specs.declared.spans.HeaderSpan.{HeaderSpan}
 
--- the bytes taken and not used, the number of all bytes taken, and the parts of the fields that were read last
+-- the bytes taken and not yet used, the count of all bytes taken, and the spans of the fields that were read last
 pub record Held : Type 0 where
   pub bytes : List ℕ
   pub taken : ℕ
   pub spans : List HeaderSpan
 
--- the most bytes that are held
+-- the most bytes that a buffer holds, and so the longest head, in bytes
 abbrev pub head_room : ℕ
 head_room = 8192
 
--- the most bytes that are taken
+-- the most bytes that are taken from a source in all
 abbrev pub take_limit : ℕ
 take_limit = 2 ^ 40
 
@@ -24,7 +24,7 @@ pub record Took (old new : Held) (left_old left_new : Option (List ℕ)) : Type 
   pub counted : new.taken ≡ old.taken + length given
   pub left : Consumes left_old left_new given
 
--- The source gave bytes that are counted and not held, and P holds of them.
+-- The source gave bytes that are counted but not held in the buffer, and P holds of them.
 pub record TookPast (old new : Held) (left_old left_new : Option (List ℕ)) (P : List ℕ → Type 0) : Type 0 where
   pub given : List ℕ
   pub held : new.bytes ≡ old.bytes

@@ -3,7 +3,7 @@ use Rattle.std.specs.Prelude.{◌≡◌, ◌↔◌, ℕ, ◌+◌, ◌-◌, ◌^�
 use Rattle.std.specs.List.{Contains}
 use Rattle.http_wire.specs.declared.memory_source.MemorySource.{MemorySource}
 
--- all its bytes, those that it gave and those that are left
+-- all its bytes, both given and left
 abbrev pub source_bytes : MemorySource → List ℕ
 source_bytes s = s.bytes.items
 
@@ -19,7 +19,7 @@ source_faults s = s.faults
 abbrev pub source_cut : MemorySource → ℕ
 source_cut s = s.cut
 
--- the numbers of the calls that are to fail, counted from 1
+-- the numbers of the calls that fail, counted from 1
 abbrev pub source_failing : MemorySource → List ℕ
 source_failing s = s.failing.items
 
@@ -27,8 +27,8 @@ source_failing s = s.failing.items
 abbrev pub source_calls : MemorySource → ℕ
 source_calls s = s.calls
 
--- one call with a room of so many bytes: it fails exactly where its number is among those that are to fail, and gives
--- else as many bytes as the cut, the room and what is left allow
+-- one call with room for that many bytes: it fails if and only if its number is one of those that fail; otherwise it
+-- gives as many bytes as the cut, the room and what is left allow
 pub record IsSourceCall {E : Type 0} (old new : MemorySource) (room : ℕ) (result : Result ℕ E) : Type 0 where
   pub cut : source_cut new ≡ source_cut old
   pub failing : source_failing new ≡ source_failing old

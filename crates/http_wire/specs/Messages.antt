@@ -11,11 +11,11 @@ use Rattle.http_wire.specs.declared.framing.FramingRefusal.{FramingRefusal}
 use Rattle.http_wire.specs.declared.framing.FramingRefusal.TheVariants.{BadHead, BodyTooLarge, ChunkedBody}
 use Rattle.http_wire.specs.declared.framing.FramingRefusal.TheVariants.{HeadTooLarge, CutShort}
 
--- the most bytes that a body has
+-- the most bytes that a body has (own)
 abbrev pub body_room : ℕ
 body_room = 1048576
 
--- the text without regard to ASCII case
+-- the two texts are the same, regardless of ASCII case
 abbrev pub same_word : List ℕ → List ℕ → Bool
 same_word a b = bytes_eq (map to_ascii_lowercase a) (map to_ascii_lowercase b)
 
@@ -27,12 +27,12 @@ fields_named name fields = filter (λ f. same_word f.name name) fields
 abbrev pub token_fields : RequestHead → List Field
 token_fields head = fields_named (codes "Office-Token") head.fields
 
--- the number of one or more digits
+-- the number that one or more digits spell; none for anything else
 abbrev pub number_of : List ℕ → Option ℕ
 number_of [] = None
 number_of (b ∷ bytes) = if list_all is_ascii_digit (b ∷ bytes) then Some (digits_value 10 (b ∷ bytes)) else None
 
--- how long the body is: 0 with no field, and nothing where there are two or it is no number
+-- how many bytes the body has: 0 without a field; none if there are two fields, or the one is not a number
 abbrev pub body_length : List Field → Option ℕ
 body_length [] = Some 0
 body_length (f ∷ []) = number_of (field_value f)
@@ -43,18 +43,18 @@ abbrev pub is_last : RequestHead → Bool
 is_last h = (h.minor == 0)
     || list_any (λ f. same_word (field_value f) (codes "close")) (fields_named (codes "Connection") h.fields)
 
--- a request: its head, its body, and whether it is the last of its session
+-- a request: its head, its body, and whether it is the last message of its session
 pub record Request : Type 0 where
   pub head : RequestHead
   pub body : List ℕ
   pub last : Bool
 
--- what stands in the stream: a request, or what is refused and ends the session
+-- one message of a stream: a request, or a refusal, which ends the session
 pub data Framed : Type 0 where
   request : Request → Framed
   refused : FramingRefusal → Framed
 
--- what a head and the bytes after it are, with what follows; with fewer bytes than the body has it is not known yet
+-- what a head and the bytes after it make, and what follows; with fewer bytes than the body's length nothing is settled
 abbrev pub after_length : RequestHead → List ℕ → Option ℕ → Framed → List ℕ → Type 0
 after_length h bytes None found rest = found ≡ refused BadHead
 after_length h bytes (Some n) found rest =
@@ -62,23 +62,23 @@ after_length h bytes (Some n) found rest =
     ⊎ ((n ≤ body_room) × (n ≤ length bytes) × (rest ≡ drop n bytes)
     × (found ≡ request (record { head = h; body = take n bytes; last = is_last h })))
 
--- the same by the fields that name a transfer coding: a message with any of them is refused
+-- the same, given the fields that name a transfer coding: a message with any of them is refused
 abbrev pub after_coding : RequestHead → List ℕ → List Field → Framed → List ℕ → Type 0
 after_coding h bytes [] found rest =
     after_length h bytes (body_length (fields_named (codes "Content-Length") h.fields)) found rest
 after_coding h bytes (f ∷ fields) found rest = found ≡ refused ChunkedBody
 
--- a head of at most that many bytes stands at the front
+-- the bytes begin with a head of at most head_room bytes
 pub record HasHead (bytes : List ℕ) (h : RequestHead) (after : List ℕ) : Type 0 where
   pub reads : ReadsRequest bytes h after
   pub fits : length (print_request h) ≤ head_room
 
--- neither a head nor a hopeless front stands in the first bytes
+-- the first head_room bytes contain neither a head nor a hopeless front
 pub record HasNoHead (bytes : List ℕ) : Type 0 where
   pub none : HasNoRequest (take head_room bytes)
   pub hopeful : ¬ (HasHopelessFront head_room bytes)
 
--- What stands at the front of the bytes, whatever follows them, and the bytes after it.
+-- What the bytes begin with, whatever follows them, and the bytes after it.
 abbrev pub Stands : List ℕ → Framed → List ℕ → Type 0
 Stands bytes found rest =
     (HasHopelessFront head_room bytes × (found ≡ refused BadHead))
@@ -86,16 +86,16 @@ Stands bytes found rest =
     ⊎ ((h : RequestHead) × (after : List ℕ) × HasHead bytes h after
     × after_coding h after (fields_named (codes "Transfer-Encoding") h.fields) found rest))
 
--- nothing is settled by these bytes
+-- these bytes do not settle what they begin with
 abbrev pub IsUnsettled : List ℕ → Type 0
 IsUnsettled bytes = (found : Framed) (rest : List ℕ) → ¬ (Stands bytes found rest)
 
--- The stream ends where a message was begun.
+-- The stream ends inside a message: it has bytes, and they settle nothing.
 pub record IsCutShort (bytes : List ℕ) : Type 0 where
   pub some : 0 < length bytes
   pub unsettled : IsUnsettled bytes
 
--- the last message of the session
+-- whether this message ends its session
 abbrev pub ends_session : Framed → Bool
 ends_session (request r) = r.last
 ends_session (refused bad) = true
@@ -115,18 +115,18 @@ abbrev pub MessagesAreUnique : Type 0
 MessagesAreUnique =
     (bytes : List ℕ) (first second : List Framed) → Messages bytes first → Messages bytes second → first ≡ second
 
--- one thing stands at the front of some bytes
+-- the same bytes do not begin with two different things
 abbrev pub StandsAlone : Type 0
 StandsAlone =
     (bytes : List ℕ) (first second : Framed) (rest other : List ℕ) → Stands bytes first rest → Stands bytes second other
     → first ≡ second
 
--- one rest follows a request
+-- the bytes after a request are determined
 abbrev pub HasOneRest : Type 0
 HasOneRest = (bytes : List ℕ) (first second : Request) (rest other : List ℕ) → Stands bytes (request first) rest
     → Stands bytes (request second) other → rest ≡ other
 
--- what stands at the front of some bytes stands there whatever follows
+-- what some bytes begin with, they begin with whatever follows
 abbrev pub StandsBeforeMore : Type 0
 StandsBeforeMore =
     (bytes more : List ℕ) (found : Framed) (rest : List ℕ) → Stands bytes found rest

@@ -11,13 +11,13 @@ use crate::source::Source;
 
 /// Why a body was not read whole.
 pub(crate) enum Gap {
-    /// The source ends before.
+    /// The source ends before the body does.
     Ended,
-    /// The source gave no more. Memory is not wanted here.
+    /// The source gave no more: it failed, or the limit was reached. The cause is never memory.
     Stopped(MessageStop),
 }
 
-/// Takes bytes until the buffer holds so many.
+/// Takes bytes until the buffer holds this many.
 pub(crate) fn fill_to<R: Source>(
     source: &mut R,
     buffer: &mut Buffer,
@@ -50,7 +50,7 @@ pub(crate) fn fill_to<R: Source>(
     Ok(())
 }
 
-/// Takes bytes that the buffer does not hold, until they fill the body from an index on.
+/// Takes bytes past the buffer, until they fill the body from an index on.
 fn fill_rest<R: Source>(
     source: &mut R,
     buffer: &mut Buffer,
@@ -82,7 +82,7 @@ fn fill_rest<R: Source>(
     Ok(())
 }
 
-/// Copies the bytes that the buffer holds from an index on into a longer body, and takes the rest of it.
+/// Copies the bytes held from an index on into a longer body, and takes the rest of it.
 #[tactic(auto, using(crate::proofs::Copied::copied))]
 pub(crate) fn fill_body<R: Source>(
     source: &mut R,

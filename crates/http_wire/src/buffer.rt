@@ -46,7 +46,7 @@ impl Model for Buffer {
 }
 
 impl Buffer {
-    /// Makes a buffer that holds nothing. Takes all memory that reading takes.
+    /// Makes a buffer that holds nothing. Takes all the memory that reading needs.
     ///
     /// # Errors
     ///
@@ -111,7 +111,7 @@ impl Buffer {
         look_in(&self.room, self.len, &mut self.spans)
     }
 
-    /// Whether as many bytes were taken as may be.
+    /// Whether the limit of bytes taken is reached.
     pub(crate) fn is_spent(&self) -> bool
         ensures yes { IsTrue result → self.now.taken ≡ take_limit }
         ensures no { IsFalse result → self.now.taken < take_limit }
@@ -119,7 +119,7 @@ impl Buffer {
         self.taken == TAKE_LIMIT
     }
 
-    /// Takes further bytes, and answers how many. 0 is the end.
+    /// Takes further bytes, and returns how many. 0 is the end.
     pub(crate) fn fill<R: Source>(&mut self, source: &mut R) -> Result<usize, Failed>
         requires room { length self.old.bytes < 8192 }
         requires unspent { self.old.taken < take_limit }
@@ -143,7 +143,7 @@ impl Buffer {
         }
     }
 
-    /// Takes further bytes into another room from an index on, and answers how many. 0 is the end.
+    /// Takes further bytes into another room from an index on, and returns how many. 0 is the end.
     pub(crate) fn fill_past<R: Source>(
         &mut self,
         source: &mut R,
@@ -172,7 +172,7 @@ impl Buffer {
     }
 }
 
-/// How many bytes may be asked for, where there is so much room and so many were taken.
+/// How many bytes may be asked for, with this much room and this many bytes taken.
 fn askable(room: usize, taken: u64) -> usize
     requires some { 0 < room }
     requires unspent { taken < take_limit }
@@ -200,7 +200,7 @@ fn look_in(room: &[u8], len: usize, spans: &mut [HeaderSpan]) -> Front
     front_of(&room[..len], spans)
 }
 
-/// Drops bytes from the front of the first ones.
+/// Drops bytes from the front of the first `len`.
 #[tactic(auto, using(crate::proofs::Dropped::dropped))]
 fn shift(room: &mut [u8], len: usize, count: usize)
     requires inside { len ≤ length room.old }
@@ -210,7 +210,7 @@ fn shift(room: &mut [u8], len: usize, count: usize)
     room.copy_within(count..len, 0);
 }
 
-/// Reads at most so many bytes into the room from an index on.
+/// Reads bytes into the room from an index on, at most as many as given.
 #[tactic(auto, using(crate::proofs::Filled::filled))]
 fn read_on<R: Source>(
     source: &mut R,

@@ -19,13 +19,13 @@ const BODY_ROOM: u64 = 1_048_576;
 pub enum Found {
     /// There is none.
     Absent,
-    /// There is one, and its value is there in the buffer.
+    /// There is one. This is where its value is in the buffer.
     Once(Span),
     /// There are several.
     Repeated,
 }
 
-/// Whether the texts are the same but for ASCII case.
+/// Whether the texts are the same, regardless of ASCII case.
 fn is_word(text: &[u8], word: &[u8]) -> bool
     ensures { result ≡ same_word text.now word.now }
 {
@@ -57,7 +57,7 @@ fn named(bytes: &[u8], headers: &[HeaderSpan], name: &[u8]) -> Found
     found
 }
 
-/// The number of one or more digits, or the greatest u64 where it is greater.
+/// The number that one or more digits spell; the greatest u64 if it is greater.
 fn number(text: &[u8]) -> Option<u64>
     ensures { result ≡ option_map (λ n. min n (2 ^ 64 - 1)) (number_of text.now) }
 {
@@ -76,12 +76,12 @@ fn number(text: &[u8]) -> Option<u64>
     Some(number)
 }
 
-/// How many bytes the body has behind a head with these fields.
+/// How many bytes the body has after a head with these fields.
 ///
 /// # Errors
 ///
-/// `ChunkedBody`: there is a field Transfer-Encoding. `BadHead`: there are two fields Content-Length, or its value is
-/// no number. `BodyTooLarge`: it is above 1,048,576.
+/// `ChunkedBody`: there is a field Transfer-Encoding. `BadHead`: there are two fields Content-Length, or the value of
+/// the one is not a number. `BodyTooLarge`: it is above 1,048,576 bytes.
 pub(crate) fn body_size(bytes: &[u8], headers: &[HeaderSpan]) -> Result<usize, FramingRefusal>
     requires within { All (IsHeaderWithin (length bytes.now)) headers.now }
     ensures { (h : RequestHead) → map (header_bytes bytes.now) headers.now ≡ map name_and_value h.fields
@@ -113,7 +113,7 @@ pub(crate) fn token_of(bytes: &[u8], headers: &[HeaderSpan]) -> Found
     named(bytes, headers, b"Office-Token")
 }
 
-/// Whether the field is Connection, and closes it.
+/// Whether the field is Connection, with the value `close`.
 fn closes(bytes: &[u8], header: HeaderSpan) -> bool
     requires within { IsHeaderWithin (length bytes.now) header }
     ensures { result
@@ -132,7 +132,7 @@ pub(crate) fn is_closing(bytes: &[u8], version: u8, headers: &[HeaderSpan]) -> b
     version == 0 || any_closes(bytes, headers)
 }
 
-/// Whether one of the fields closes the connection.
+/// Whether one of the fields is Connection, with the value `close`.
 fn any_closes(bytes: &[u8], headers: &[HeaderSpan]) -> bool
     requires within { All (IsHeaderWithin (length bytes.now)) headers.now }
     ensures { result

@@ -1,9 +1,9 @@
-// Refusals that a message's own framing decides.
+// Refusals that only the framing of a message decides.
 
-/// Why no request stands at the front of a stream. The message is the last of its session.
+/// Why a stream does not begin with a request. The message is the last of its session.
 #[derive(Clone, Copy, Debug, PartialEq, Eq)]
 pub enum FramingRefusal {
-    /// The bytes are no head whatever follows, or the head has no single body length.
+    /// The bytes cannot become a head, whatever follows, or the head has no single body length.
     BadHead,
     /// The body has more than 1,048,576 bytes.
     BodyTooLarge,

@@ -9,13 +9,13 @@ ghost use Rattle.http_wire.specs.Heads.{IsHopeless, IsOpen, OnWhole};
 use httparse::spans::{HeaderSpan, RequestSpans, parse_request};
 use httparse::{Status, is_uri_token};
 
-/// What stands at the front of the bytes.
+/// What some bytes begin with.
 pub enum Front {
     /// A whole head.
     Whole(RequestSpans),
-    /// The beginning of a head.
+    /// The beginning of a head, which further bytes may complete.
     Open,
-    /// Neither, whatever follows.
+    /// Neither, whatever bytes follow.
     Hopeless,
 }
 
@@ -74,7 +74,7 @@ fn first_space(bytes: &[u8]) -> Option<usize>
     bytes.iter().position(|b| *b == b' ')
 }
 
-/// Whether each byte may stand in a target.
+/// Whether every byte is allowed in a target.
 fn all_in_target(bytes: &[u8]) -> bool
     ensures { result ≡ list_all is_uri_byte bytes.now }
 {

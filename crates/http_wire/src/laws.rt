@@ -2,27 +2,27 @@
 ghost use Rattle.http_wire.specs.Messages.{MessagesAreUnique, StandsAlone, HasOneRest, StandsBeforeMore};
 ghost use Rattle.http_wire.specs.Read.{AnswersTheFirst, RefusesTheFirst, EndsWithNone};
 
-/// States that a stream is one list of messages.
+/// States that a stream is one list of messages only.
 pub fn messages_unique()
     ensures { MessagesAreUnique }
 {}
 
-/// States that one thing stands at the front of some bytes.
+/// States that the same bytes do not begin with two different things.
 pub fn stands_unique()
     ensures { StandsAlone }
 {}
 
-/// States that one rest follows a request.
+/// States that the bytes after a request are determined.
 pub fn stands_rest()
     ensures { HasOneRest }
 {}
 
-/// States that what stands at the front of some bytes stands there whatever follows: in whatever pieces a stream comes.
+/// States that what some bytes begin with does not depend on what follows, in whatever pieces the stream comes.
 pub fn stands_more()
     ensures { StandsBeforeMore }
 {}
 
-/// States that what reads answer are the messages of the stream, in order, in whatever pieces it comes.
+/// States that successive reads answer the messages of the stream, in order, in whatever pieces it comes.
 pub fn reads_messages()
     ensures request { AnswersTheFirst }
     ensures refused { RefusesTheFirst }

@@ -1,4 +1,4 @@
-//! Sources of bytes, and the message that stands at the front of a stream.
+//! Sources of bytes, and the message at the front of a stream.
 #![tactic(auto)]
 
 mod body;

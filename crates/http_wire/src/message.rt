@@ -21,7 +21,7 @@ use httparse::spans::RequestSpans;
 use std::alloc::Global;
 use std::marker::Model;
 
-/// A request whose head lies at the front of the buffer.
+/// A request whose head is at the front of the buffer.
 #[derive(Drop)]
 pub struct Message {
     head: RequestSpans,
@@ -63,7 +63,7 @@ impl Message {
         self.last
     }
 
-    /// Tells the fields Office-Token of the head.
+    /// Returns the fields Office-Token of the head.
     pub fn token(&self) -> Found
         ensures value { result ≡ self.now.token }
         ensures lies { LiesIn self.now.head.len result }
@@ -71,7 +71,7 @@ impl Message {
         self.token
     }
 
-    /// How many bytes at the front of the buffer are the message's.
+    /// How many bytes at the front of the buffer belong to the message.
     pub fn used(&self) -> usize
         ensures { result ≡ self.now.used }
     {
@@ -90,12 +90,12 @@ impl Message {
     }
 }
 
-/// What stands at the front of a stream.
+/// What a stream begins with.
 #[derive(Drop)]
 pub enum Next {
     /// A request.
     Request(Message),
-    /// What is none. The message is the last of its session.
+    /// A message that is not a request. It is the last of its session.
     Refused(FramingRefusal),
     /// The end of the stream.
     End,
@@ -112,7 +112,7 @@ pub enum MessageStop {
     NoMemory,
 }
 
-/// What stands where a body is not whole.
+/// What a body that is not whole makes of its message.
 fn short_of(gap: Gap) -> Result<Next, MessageStop>
     ensures ended { gap ≡ Gap.Ended → result ≡ Ok (Next.Refused FramingRefusal.CutShort) }
     ensures stopped { (stop : MessageStop) → gap ≡ Gap.Stopped stop → result ≡ Err stop }
@@ -219,7 +219,7 @@ fn read_body<R: Source>(
     read_apart(alloc, source, buffer, head, size, last, token)
 }
 
-/// Reads what is behind the heading.
+/// Reads what follows the heading.
 fn next_of<R: Source>(
     alloc: Global,
     source: &mut R,
@@ -244,13 +244,13 @@ fn next_of<R: Source>(
     }
 }
 
-/// Reads the next message. Its bytes stay in the buffer, but for those of a body that does not fit there.
+/// Reads the next message. Its bytes stay in the buffer, except those of a body that does not fit there.
 ///
 /// # Errors
 ///
-/// `Spent`: 2^40 = 1,099,511,627,776 bytes were taken and a further read is needed, also where it would find the end.
-/// `ReadFault`: the source failed. `NoMemory`: memory ran out for a body that does not fit in the buffer. Bytes of a
-/// long body that were taken before are lost.
+/// `Spent`: 2^40 = 1,099,511,627,776 bytes were taken and a further read is needed, even one that would find the end.
+/// `ReadFault`: the source failed. `NoMemory`: memory ran out for a body that does not fit in the buffer. Bytes already
+/// taken of a long body are lost.
 pub fn read_message<R: Source>(
     alloc: Global,
     source: &mut R,
@@ -263,26 +263,26 @@ pub fn read_message<R: Source>(
     ensures end { result ≡ Ok Next.End
         → Gave buffer.old buffer.new (R.left source.old) (R.left source.new) (λ bytes. bytes ≡ [])
         × IsAtEnd (R.left source.new) }
-    // The end is found by a read, so fewer bytes than the limit were taken.
+    // Only a read finds the end, so fewer bytes than the limit were taken.
     ensures at_end { (result ≡ Ok (Next.Refused FramingRefusal.CutShort)) ⊎ (result ≡ Ok Next.End)
         → buffer.new.taken < take_limit }
     ensures spent { IsErrOf result MessageStop.Spent
         → (buffer.new.taken ≡ take_limit)
         × Gave buffer.old buffer.new (R.left source.old) (R.left source.new) IsUnsettled }
-    // The source fails only where what was taken settles nothing.
+    // The source fails only if the bytes taken settle nothing.
     ensures failed { IsErrOf result MessageStop.ReadFault
         → Gave buffer.old buffer.new (R.left source.old) (R.left source.new) IsUnsettled }
     ensures no_memory { IsErrOf result MessageStop.NoMemory
         → Gave buffer.old buffer.new (R.left source.old) (R.left source.new) AwaitsLongBody }
     ensures given { Gave buffer.old buffer.new (R.left source.old) (R.left source.new) (λ bytes. ⊤) }
-    // Whatever is answered, a head and a body at most were held and taken.
+    // In every case, at most one head and one body are held and taken.
     ensures ahead { TakesFew buffer.old buffer.new }
     ensures limit { buffer.new.taken ≤ take_limit }
     ensures fits { OnRequest result (λ m. m.used ≤ length buffer.new.bytes) }
     // A message has at least one byte.
     ensures uses { OnRequest result
         (λ m. buffer.old.taken + length (drop m.used buffer.new.bytes) < buffer.new.taken + length buffer.old.bytes) }
-    // A message whose bytes are held is answered without a read.
+    // A message that the bytes held settle is answered without a read.
     ensures settled { (IsUnsettled buffer.old.bytes → ⊥) → source.new ≡ source.old }
     ensures only_reads { OnlyReads R.Source source.old source.new (IsErrOf result MessageStop.ReadFault) }
 {

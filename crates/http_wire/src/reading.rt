@@ -13,26 +13,26 @@ use crate::message::MessageStop;
 use crate::source::Source;
 use httparse::spans::RequestSpans;
 
-/// What stands at the front of a stream.
+/// What a stream begins with.
 #[derive(Drop)]
 pub(crate) enum Heading {
     /// A whole head, whose parts are in the buffer.
     Whole(RequestSpans),
-    /// No head, whatever follows.
+    /// Not a head, whatever follows.
     Hopeless,
-    /// No head in 8,192 bytes.
+    /// No head that ends within 8,192 bytes.
     TooLarge,
-    /// The beginning of a head, where the stream ends.
+    /// The beginning of a head, at the end of the stream.
     CutShort,
     /// The end of the stream.
     End,
 }
 
-/// Reads until a head stands at the front of what the buffer holds, or until none can.
+/// Reads until the buffer begins with a head, or until it cannot.
 ///
 /// # Errors
 ///
-/// `Spent`: 2^40 = 1,099,511,627,776 bytes were taken and a further read is needed, also where it would find the end.
+/// `Spent`: 2^40 = 1,099,511,627,776 bytes were taken and a further read is needed, even one that would find the end.
 /// `ReadFault`: the source failed. The bytes taken before are held.
 pub(crate) fn read_head<R: Source>(
     source: &mut R,
@@ -49,14 +49,14 @@ pub(crate) fn read_head<R: Source>(
     ensures cut_short { result ≡ Ok Heading.CutShort → IsOpen buffer.new.bytes × (0 < length buffer.new.bytes)
         × (length buffer.new.bytes < head_room) × IsAtEnd (R.left source.new) }
     ensures end { result ≡ Ok Heading.End → (buffer.new.bytes ≡ []) × IsAtEnd (R.left source.new) }
-    // The end is found by a read, so fewer bytes than the limit were taken.
+    // Only a read finds the end, so fewer bytes than the limit were taken.
     ensures at_end { (result ≡ Ok Heading.CutShort) ⊎ (result ≡ Ok Heading.End) → buffer.new.taken < take_limit }
     ensures spent { IsErrOf result MessageStop.Spent
         → (buffer.new.taken ≡ take_limit) × IsOpen buffer.new.bytes × (length buffer.new.bytes < head_room) }
     ensures failed { IsErrOf result MessageStop.ReadFault
         → IsOpen buffer.new.bytes × (length buffer.new.bytes < head_room) }
     ensures enough { IsErrOf result MessageStop.NoMemory → ⊥ }
-    // The source is read only where the bytes that are held settle nothing.
+    // The source is read only if the bytes held settle nothing.
     ensures settled { (IsOpen buffer.old.bytes → ⊥) → source.new ≡ source.old }
     ensures full { head_room ≤ length buffer.old.bytes → source.new ≡ source.old }
     ensures only_reads { OnlyReads R.Source source.old source.new (IsErrOf result MessageStop.ReadFault) }
@@ -81,7 +81,7 @@ pub(crate) fn read_head<R: Source>(
     }
 }
 
-/// What stands where the stream ends.
+/// What the bytes held make at the end of the stream.
 fn ending(buffer: &Buffer) -> Heading
     ensures { ((result ≡ Heading.CutShort) × (0 < length buffer.now.bytes))
         ⊎ ((result ≡ Heading.End) × (buffer.now.bytes ≡ [])) }
