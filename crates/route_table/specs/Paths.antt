@@ -2,7 +2,7 @@
 use Rattle.std.specs.Prelude.{◌≡◌, ℕ, ◌<◌, Bool, false, ◌==◌, List, [], ◌∷◌, length, flat_map}
 use Rattle.std.specs.List.{list_any}
 
--- a piece of a path, which a slash precedes: a word that stands as it is, a segment, or all that is left
+-- a piece of a path, after a slash: a fixed word, a segment, or the whole remainder
 pub data Piece : Type 0 where
   word : List ℕ → Piece
   segment : List ℕ → Piece
@@ -27,7 +27,7 @@ piece_text (remainder text) = text
 abbrev pub path_of : List Piece → List ℕ
 path_of pieces = flat_map (λ piece. 47 ∷ piece_text piece) pieces
 
--- segments are not empty and have no slash, and what is left is not empty
+-- segments are not empty and have no slash, and a remainder is not empty
 abbrev pub AreInRange : List Piece → Type 0
 AreInRange [] = Unit {0}
 AreInRange (word text ∷ pieces) = AreInRange pieces

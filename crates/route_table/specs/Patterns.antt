@@ -1,4 +1,4 @@
--- Patterns: which paths have one, and which have no path in common.
+-- Patterns: which paths match one, and which patterns have no path in common.
 use Rattle.std.specs.Prelude.{◌≡◌, ℕ, Bool, true, false, not, ◌&&◌, ◌||◌, ◌==◌, ltb, List, [], ◌∷◌, map, nat_eq}
 use Rattle.std.specs.List.{list_all}
 use Rattle.std.specs.Cmp.Lexicographic.{pointwise}
@@ -6,13 +6,13 @@ use Rattle.route_table.specs.declared.shape.Shape.{Shape as Given}
 use Rattle.route_table.specs.declared.shape.Shape.TheVariants.{Word, Segment, Remainder}
 use Rattle.route_table.specs.Paths.{Piece, word, segment, remainder, path_of, AreInRange}
 
--- the shape of a piece: this word, or any segment, or all that is left
+-- the shape of a piece: this word, any segment, or the whole remainder
 pub data Shape : Type 0 where
   a_word : List ℕ → Shape
   a_segment : Shape
   a_remainder : Shape
 
--- what a piece tells of a pattern: its word, or that any segment or all that is left may stand there
+-- the shape of this piece: its word, any segment, or the whole remainder
 abbrev pub shape_of : Piece → Shape
 shape_of (word text) = a_word text
 shape_of (segment text) = a_segment
@@ -22,7 +22,7 @@ shape_of (remainder text) = a_remainder
 abbrev pub shapes_of : List Piece → List Shape
 shapes_of pieces = map shape_of pieces
 
--- the parts of some pieces: what stands where a word does not
+-- the parts of some pieces: the texts of those that are not words
 abbrev pub parts_between : List Piece → List (List ℕ)
 parts_between [] = []
 parts_between (word text ∷ pieces) = parts_between pieces
@@ -41,7 +41,7 @@ pub record HasPattern (pattern : List Shape) (parts : List (List ℕ)) (path : L
 abbrev pub is_word_byte : ℕ → Bool
 is_word_byte b = ltb b 128 && (not (b == 47) && (not (b == 123) && not (b == 125)))
 
--- these shapes are a pattern: its words are of such bytes, and nothing follows what is left
+-- these shapes are a pattern: its words have only bytes of a word, and nothing follows a remainder
 abbrev pub is_pattern : List Shape → Bool
 is_pattern [] = true
 is_pattern (a_word text ∷ pattern) = list_all is_word_byte text && is_pattern pattern
@@ -49,8 +49,8 @@ is_pattern (a_segment ∷ pattern) = is_pattern pattern
 is_pattern (a_remainder ∷ []) = true
 is_pattern (a_remainder ∷ shape ∷ pattern) = false
 
--- two shapes at one place tell their patterns apart: two words that differ do, and else what comes after them; what is
--- left tells nothing
+-- whether two shapes at one place tell their patterns apart: different words do; otherwise the shapes after them
+-- decide; a remainder never does
 abbrev pub are_apart_at : Shape → Shape → Bool → Bool
 are_apart_at (a_word text) (a_word other) later = not (pointwise nat_eq text other) || later
 are_apart_at (a_word text) a_segment later = later
@@ -62,7 +62,8 @@ are_apart_at a_remainder (a_word other) later = false
 are_apart_at a_remainder a_segment later = false
 are_apart_at a_remainder a_remainder later = false
 
--- two patterns are apart: at one place they have different words, or one of them ends before the other
+-- two patterns are apart: they have different words at one place, or one ends before the other, with no remainder
+-- before
 abbrev pub are_apart : List Shape → List Shape → Bool
 are_apart [] [] = false
 are_apart [] (shape ∷ other) = true
@@ -75,12 +76,12 @@ are_disjoint [] = true
 are_disjoint (pattern ∷ patterns) =
     is_pattern pattern && (list_all (λ other. are_apart pattern other) patterns && are_disjoint patterns)
 
--- the shapes that a slice gives
+-- the shape, as specs have it, of a shape in Rust
 abbrev pub shape_in : Given → Shape
 shape_in (Word text) = a_word text.now
 shape_in Segment = a_segment
 shape_in Remainder = a_remainder
 
--- the shapes of a whole slice, in their order
+-- the shapes of a whole slice, in order
 abbrev pub pattern_in : List Given → List Shape
 pattern_in shapes = map shape_in shapes

@@ -1,4 +1,4 @@
-//! A table of patterns, each with a value, and what a path has in it.
+//! A table of patterns, each with a value, and what it gives for a path.
 #![tactic(auto)]
 
 mod laws;

@@ -5,7 +5,7 @@ ghost use Rattle.route_table.specs.Routed.{AreTexts, taken, taken_by};
 use matchit::{Params, ParamsIter};
 use std::marker::Model;
 
-/// What stands in a path where its pattern has no word, in the order of the path. They take no memory.
+/// The parts of a path for which its pattern has no word, in order. They take no memory.
 #[derive(Drop)]
 pub struct Parts<'a, 't> {
     params: Params<'a, 't>,
@@ -22,7 +22,7 @@ impl<'a, 't> Model for Parts<'a, 't> {
     ghost invariant = { λ p. AreTexts (taken_by p.params) };
 }
 
-// The part at a place, of those that are left.
+// The part at a place, counted from 0 among those left.
 fn part_at<'t>(left: &mut ParamsIter<'_, '_, 't>, place: usize) -> &'t str
     ensures { AreTexts (taken left.old) → result.now ≡ get_or (taken left.old) place [] }
 {
@@ -47,7 +47,7 @@ impl<'a, 't> Parts<'a, 't> {
         Parts { params }
     }
 
-    /// The part at a place, counted from 0, and an empty text where there are fewer.
+    /// The part at a place, counted from 0; an empty text if there are fewer.
     pub fn at(&self, place: usize) -> &'t str
         ensures { result.now ≡ get_or self.now place [] }
     {

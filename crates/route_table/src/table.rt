@@ -12,7 +12,7 @@ use matchit::{InsertError, Router};
 use std::alloc::{AllocError, Global};
 use std::marker::Model;
 
-/// Patterns that are disjoint, each with a value. A table is built once, and then answers without memory.
+/// Disjoint patterns, each with a value. A table is built once, and then answers without memory.
 #[derive(Drop)]
 pub struct Table<'p, V> {
     rows: &'p [(&'p [Shape<'p>], V)],
@@ -20,7 +20,7 @@ pub struct Table<'p, V> {
     router: Router<usize>,
 }
 
-// Callers see the rows, in their order.
+// Callers see the rows, in order.
 impl<'p, V> Model for Table<'p, V> {
     ghost use Rattle.std.specs.Prelude.{List, map};
     ghost use Rattle.route_table.specs.Patterns.{Shape, pattern_in};
@@ -34,12 +34,12 @@ impl<'p, V> Model for Table<'p, V> {
     ghost invariant = { λ t. IsRouted (patterns_of (map (λ row. (pattern_in row.0.now, row.1)) t.rows.now)) t.router };
 }
 
-/// What a path has in a table.
+/// What a table gives for a path.
 #[derive(Drop)]
 pub struct Found<'a, 't, V> {
     /// The value that is kept with the path's pattern.
     pub value: &'a V,
-    /// What stands in the path where the pattern has no word.
+    /// The parts of the path for which the pattern has no word.
     pub parts: Parts<'a, 't>,
 }
 
@@ -105,9 +105,9 @@ impl<'p, V> Table<'p, V> {
         Ok(Table { rows, router })
     }
 
-    /// Finds what a path has in the table. Takes no memory.
+    /// Finds the value and the parts of a path. Takes no memory.
     ///
-    /// `None`: the path has none of the patterns.
+    /// `None`: the path matches none of the patterns.
     pub fn find<'a, 't>(&'a self, path: &'t str) -> Option<Found<'a, 't, V>>
         ensures found { IfSome result (λ found. Leads self.now path.now found.value.now found.parts) }
         ensures only { IfSome result (λ found. LeadsOnly self.now path.now found.value.now found.parts) }
