@@ -1,5 +1,5 @@
--- The key that a part of a path spells (RFC 3986, "Percent-Encoding": a percent sign and two hexadecimal
--- digits stand for a byte; own: any other percent sign stays).
+-- The key that a part of a path spells (RFC 3986, "Percent-Encoding"). A percent sign and two hexadecimal digits are
+-- one byte; any other percent sign stays as it is (own).
 use Rattle.std.specs.Prelude.{ℕ, List}
 use Rattle.percent_encoding.specs.Percent.{percent_decode}
 

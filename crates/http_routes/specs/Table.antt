@@ -1,4 +1,4 @@
--- The table of the routes: the pattern of each kind of route, and what it names by its parts.
+-- The table of the routes: the pattern of each kind of route, and the resource that its parts name.
 use Rattle.std.specs.Prelude.{ℕ, List, [], ◌∷◌, map, get_or}
 use Rattle.route_table.specs.Patterns.{Shape, shapes_of}
 use Rattle.http_routes.specs.Targets.{Resource, bucket, versioning, lifecycle, object, version, tags, uploads, upload, part, act, due}
@@ -7,19 +7,19 @@ use Rattle.http_routes.specs.declared.routes.Kind.{Kind}
 use Rattle.http_routes.specs.declared.routes.Kind.TheVariants.{Bucket, Versioning, Lifecycle, Object, Version, Tags, Uploads, Upload, Part}
 use Rattle.http_routes.specs.declared.routes.Kind.TheVariants.{Act, Due, Meters, Tariff, Close, Report}
 
--- the first, second and third of some parts; no part is as an empty one
+-- the first part, empty if there is none
 abbrev pub first_part : List (List ℕ) → List ℕ
 first_part parts = get_or parts 0 []
 
--- the second part, an empty one where there are fewer
+-- the second part, empty if there are fewer
 abbrev pub second_part : List (List ℕ) → List ℕ
 second_part parts = get_or parts 1 []
 
--- the third part, an empty one where there are fewer
+-- the third part, empty if there are fewer
 abbrev pub third_part : List (List ℕ) → List ℕ
 third_part parts = get_or parts 2 []
 
--- what a route of a kind names, by its parts
+-- the resource that a route of this kind names, given its parts
 abbrev pub named : Kind → List (List ℕ) → Resource
 named Bucket parts = bucket (first_part parts)
 named Versioning parts = versioning (first_part parts)
@@ -37,7 +37,7 @@ named Tariff parts = tariff
 named Close parts = close (first_part parts)
 named Report parts = report (first_part parts)
 
--- the pattern of a kind of route: the shapes of the pieces of what it names, whatever its parts are
+-- the pattern of a kind of route: the shapes of the pieces of its resource, the same for all parts
 abbrev pub pattern_of : Kind → List Shape
 pattern_of kind = shapes_of (pieces_of (named kind []))
 
@@ -47,6 +47,6 @@ route_kinds =
     Bucket ∷ Versioning ∷ Lifecycle ∷ Object ∷ Version ∷ Tags ∷ Uploads ∷ Upload ∷ Part ∷ Act ∷ Due ∷ Meters
     ∷ Tariff ∷ Close ∷ Report ∷ []
 
--- its rows
+-- the rows of the table: the pattern of each kind, and the kind
 unfoldable pub rows : List (List Shape × Kind)
 rows = map (λ kind. (pattern_of kind, kind)) route_kinds

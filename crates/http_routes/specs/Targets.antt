@@ -15,8 +15,8 @@
 --     /tariff                                  the tariff
 --     /months/{month}/close                    the close of a month
 --     /months/{month}/report                   the report of a month
--- {name} stands for a segment that is not empty, and {*key} for all that is left, if anything is. Parts are the bytes
--- of the target: nothing is percent-decoded.
+-- {name} is a segment, with one byte or more and no slash. {*key} is all that is left, with one byte or more. Parts are
+-- the bytes of the target: nothing is percent-decoded.
 use Rattle.std.specs.Prelude.{◌≡◌, ℕ, false, List, [], ◌∷◌, codes, IsTrue}
 use Rattle.std.specs.Str.{is_utf8}
 use Rattle.route_table.specs.Paths.{Piece, word, segment, remainder, has_byte, path_of, AreInRange}
@@ -24,7 +24,7 @@ use Rattle.http_routes.specs.declared.route.Route.{Route}
 use Rattle.http_routes.specs.declared.route.Route.TheVariants.{Bucket, Versioning, Lifecycle, Object, Version, Tags, Uploads, Upload, Part}
 use Rattle.http_routes.specs.declared.route.Route.TheVariants.{Act, Due, Meters, Tariff, Close, Report}
 
--- what a target names, with the parts that it has, in their order
+-- the resource that a target names, with its parts in order
 pub data Resource : Type 0 where
   bucket : List ℕ → Resource
   versioning : List ℕ → Resource
@@ -42,11 +42,11 @@ pub data Resource : Type 0 where
   close : List ℕ → Resource
   report : List ℕ → Resource
 
--- the pieces of a path of a bucket
+-- the pieces of a path that begins with a bucket
 abbrev of_bucket : List ℕ → List Piece → List Piece
 of_bucket name pieces = word (codes "buckets") ∷ segment name ∷ pieces
 
--- the pieces of the path that names this
+-- the pieces of the path that names this resource
 abbrev pub pieces_of : Resource → List Piece
 pieces_of (bucket name) = of_bucket name []
 pieces_of (versioning name) = of_bucket name (word (codes "versioning") ∷ [])
@@ -64,17 +64,17 @@ pieces_of tariff = word (codes "tariff") ∷ []
 pieces_of (close month) = word (codes "months") ∷ segment month ∷ word (codes "close") ∷ []
 pieces_of (report month) = word (codes "months") ∷ segment month ∷ word (codes "report") ∷ []
 
--- the target is spelled with these parts, and they are in their range
+-- the target is spelled with these parts, and they are in range
 abbrev pub Spells : List ℕ → Resource → Type 0
 Spells target resource = (target ≡ path_of (pieces_of resource)) × AreInRange (pieces_of resource)
 
--- the target leads there: it is UTF-8, without a query (own: targets of other bytes, and such with a `?`, lead nowhere)
+-- the target names this resource: it is UTF-8 and has no query (own: a target with other bytes or a `?` names nothing)
 pub record HasRoute (target : List ℕ) (resource : Resource) : Type 0 where
   pub text : IsTrue (is_utf8 target)
   pub no_query : has_byte 63 target ≡ false
   pub spelled : Spells target resource
 
--- what a route names
+-- the resource that a route names
 abbrev pub resource_of : Route → Resource
 resource_of (Bucket name) = bucket name.now
 resource_of (Versioning name) = versioning name.now

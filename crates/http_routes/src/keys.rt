@@ -9,8 +9,8 @@ use std::alloc::Global;
 
 /// Reads the key that a part of a path spells: the bytes of the part, percent-decoded.
 ///
-/// Rule: RFC 3986, "Percent-Encoding". A percent sign that no two hexadecimal digits follow stands for itself, as `+`
-/// does.
+/// Rule: RFC 3986, "Percent-Encoding". A percent sign without two hexadecimal digits after it stays as it is, and so
+/// does `+`.
 ///
 /// # Errors
 ///

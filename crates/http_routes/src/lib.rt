@@ -1,4 +1,4 @@
-//! Routes: where the target of a request leads, and the key that a part of a path spells.
+//! Routes: which resource the target of a request names, and the key that a part of a path spells.
 #![tactic(auto)]
 
 mod keys;

@@ -1,6 +1,6 @@
 // Where a target leads.
 
-/// Where the target of a request leads, with its parts as they stand in the target: nothing is percent-decoded.
+/// Where the target of a request leads. Its parts are the bytes of the target: nothing is percent-decoded.
 #[derive(Clone, Copy, Debug, PartialEq, Eq)]
 pub enum Route<'t> {
     /// `/buckets/{bucket}`: a bucket.

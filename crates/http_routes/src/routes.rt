@@ -88,7 +88,7 @@ pub struct Routes {
     table: Table<'static, Kind>,
 }
 
-// Callers see nothing of the routes: each value of the type has the same ones.
+// Callers see nothing of the routes: every value of the type has the same ones.
 impl Model for Routes {
     ghost use Rattle.std.specs.Prelude.{◌≡◌};
     ghost use Rattle.http_routes.specs.Table.{rows};
@@ -163,7 +163,7 @@ impl Routes {
 
     /// Finds where a target leads. Takes no memory.
     ///
-    /// `None`: the target leads nowhere. It has a `?`, is not UTF-8, or is spelled as none of the routes is.
+    /// `None`: the target leads nowhere. It has a `?`, is not UTF-8, or matches none of the routes.
     pub fn find<'t>(&self, target: &'t [u8]) -> Option<Route<'t>>
         ensures found { IfSome result (λ route. HasRoute target.now (resource_of route)) }
         ensures none { result ≡ None → (resource : Resource) → ¬ (HasRoute target.now resource) }
