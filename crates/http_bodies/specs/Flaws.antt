@@ -15,7 +15,7 @@ pub data BodyFlaw : Type 0 where
   unsupported_class : List ℕ → BodyFlaw
   bad_tags : BodyFlaw
 
--- the flaw that a fault tells of; none where memory ran out
+-- the flaw that a fault reports; none if memory ran out
 abbrev pub body_flaw_of : BodyFault → Option BodyFlaw
 body_flaw_of (BadBody field) = Some (bad_body (string_bytes field))
 body_flaw_of BadSize = Some bad_size
@@ -23,19 +23,19 @@ body_flaw_of (UnsupportedClass name) = Some (unsupported_class (string_bytes nam
 body_flaw_of BadTags = Some bad_tags
 body_flaw_of NoMemory = None
 
--- an answer, seen by view, is what reading gives, unless memory ran out
+-- an answer, seen by view, is the result of reading, unless memory ran out
 abbrev pub BodySays : {X Y : Type 0} → (X → Y) → Result X BodyFault → Result Y BodyFlaw → Type 0
 BodySays view answer read = GivesBy body_flaw_of view answer read
 
--- a body without a field that is unknown
+-- the body, or the flaw of its unknown field if there is one
 abbrev pub if_known : Data → Option (List ℕ) → Result Data BodyFlaw
 if_known body None = Ok body
 if_known body (Some name) = Err (bad_body name)
 
--- the body has these fields alone
+-- the body, if it has no other fields than these
 abbrev pub with_fields : List (List ℕ) → Data → Result Data BodyFlaw
 with_fields known body = if_known body (first_unknown known body)
 
--- the object that the bytes of a body are, which has these fields alone
+-- the object that the bytes of a body are, if it has no other fields than these
 abbrev pub body_with : List (List ℕ) → List ℕ → Result Data BodyFlaw
 body_with known bytes = ok_or (body_object bytes) (bad_body []) >>= with_fields known

@@ -9,7 +9,7 @@ use Rattle.http_bodies.specs.Bodies.{text_pairs, held, if_held}
 use Rattle.http_bodies.specs.Flaws.{BodyFlaw, bad_body, body_with}
 use Rattle.http_bodies.specs.Ranges.{class_in_range, tags_in_range}
 
--- the name of a class and pairs of texts, where they are there, that are in range
+-- the class of this name and these tags, either of which may be missing, if they are in range
 unfoldable pub upload_in_range : Option (List ℕ) → Option (List Tag) → Result UploadBody BodyFlaw
 upload_in_range name pairs = do
   class ← class_in_range name
@@ -24,7 +24,7 @@ upload_said bytes = do
   tags ← ok_or (if_held text_pairs (codes "tags") body) (bad_body (codes "tags"))
   upload_in_range class tags
 
--- the size that the bytes of the body of a part say, in bytes, or the first rule that they break; it has no range here
+-- the size that the body of a part says, in bytes, or the first rule that it breaks; this body limits no size
 unfoldable pub part_of : List ℕ → Result ℕ BodyFlaw
 part_of bytes = do
   body ← body_with (codes "size" ∷ []) bytes

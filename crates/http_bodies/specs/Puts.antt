@@ -1,4 +1,4 @@
--- What the body of a PUT of an object says: its fields in their order, first their kinds and then their ranges (own
+-- What the body of a PUT of an object says. First the kinds of all fields are checked in order, then their ranges (own
 -- order).
 use Rattle.std.specs.Prelude.{ℕ, List, [], ◌∷◌, Option, Result, Ok, ok_or, codes}
 use Rattle.serde_json.specs.Find.{as_str}
@@ -14,7 +14,7 @@ use Rattle.http_bodies.specs.Ranges.{size_in_range, class_in_range, tags_in_rang
 abbrev pub put_fields : List (List ℕ)
 put_fields = codes "size" ∷ codes "class" ∷ codes "tags" ∷ []
 
--- a size, and a name of a class and pairs of texts where they are there, that are in range
+-- this size, the class of this name and these tags, if they are in range; the class and the tags may be missing
 unfoldable pub put_in_range : ℕ → Option (List ℕ) → Option (List Tag) → Result PutBody BodyFlaw
 put_in_range bytes name pairs = do
   size ← size_in_range bytes

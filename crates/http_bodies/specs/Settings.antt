@@ -1,4 +1,4 @@
--- What the bodies say that set the versioning of a bucket or the tags of a version.
+-- What a body says that sets the versioning of a bucket or the tags of a version.
 use Rattle.std.specs.Prelude.{ℕ, List, [], ◌∷◌, Bool, true, false, if◌then◌else◌}
 use Rattle.std.specs.Prelude.{Option, Some, None, option_and_then, Result, ok_or, codes}
 use Rattle.std.specs.Str.{bytes_eq}
@@ -17,18 +17,18 @@ status_named word =
     else if bytes_eq word (codes "Suspended") then Some false
     else None
 
--- the same of a JSON value, where it is a text
+-- the same of a JSON value, if it is a text
 abbrev pub versioning_status : Data → Option Bool
 versioning_status value = option_and_then status_named (as_str value)
 
--- the versioning that the bytes of a body ask for, or the first rule that they break
+-- the versioning that the bytes of a body set, or the first rule that they break
 unfoldable pub versioning_of : List ℕ → Result Bool BodyFlaw
 versioning_of bytes = do
   body ← body_with (codes "Status" ∷ []) bytes
   ok_or (held versioning_status (codes "Status") body) (bad_body (codes "Status"))
 
--- the tags that the bytes of a body ask for, or the first rule that they break (S3 User Guide, "Categorizing your
--- objects using tags")
+-- the tags that the bytes of a body set, or the first rule that they break (S3 User Guide, "Categorizing your objects
+-- using tags")
 unfoldable pub tagging_of : List ℕ → Result (List Tag) BodyFlaw
 tagging_of bytes = do
   body ← body_with (codes "tags" ∷ []) bytes

@@ -35,7 +35,7 @@ fn read_body(alloc: Global, bytes: &[u8]) -> Result<Value, BodyFault>
     }
 }
 
-// Refuses a field that is none of these.
+// Refuses a field that is not one of these.
 fn check_fields(alloc: Global, body: &Value, known: &[&str]) -> Result<(), BodyFault>
     ensures { BodySays (λ _. view body.now) result (with_fields (map (λ k. k.now) known.now) (view body.now)) }
 {
@@ -45,7 +45,7 @@ fn check_fields(alloc: Global, body: &Value, known: &[&str]) -> Result<(), BodyF
     }
 }
 
-// Reads the object that a body is, which has these fields alone.
+// Reads the object that a body is, if it has no other fields than these.
 pub(crate) fn read_object(alloc: Global, bytes: &[u8], known: &[&str]) -> Result<Value, BodyFault>
     ensures { BodySays view result (body_with (map (λ k. k.now) known.now) bytes.now) }
 {
@@ -54,7 +54,7 @@ pub(crate) fn read_object(alloc: Global, bytes: &[u8], known: &[&str]) -> Result
     Ok(body)
 }
 
-// The whole number of a field that has to be there.
+// The whole number of a required field.
 pub(crate) fn whole_number(alloc: Global, body: &Value, name: &str) -> Result<u64, BodyFault>
     ensures { BodySays (λ n. n) result (ok_or (held whole_number name.now (view body.now)) (bad_body name.now)) }
 {
@@ -88,7 +88,7 @@ fn status_in(value: &Value) -> Option<bool>
     }
 }
 
-// Whether versioning is enabled, by a field that has to be there.
+// Whether versioning is enabled, by a required field.
 pub(crate) fn status(alloc: Global, body: &Value, name: &str) -> Result<bool, BodyFault>
     ensures { BodySays (λ enabled. enabled) result
         (ok_or (held versioning_status name.now (view body.now)) (bad_body name.now)) }
@@ -102,7 +102,7 @@ pub(crate) fn status(alloc: Global, body: &Value, name: &str) -> Result<bool, Bo
     }
 }
 
-// The text of a field that may be missing.
+// The text of an optional field.
 pub(crate) fn text<'b>(
     alloc: Global,
     body: &'b Value,
@@ -157,7 +157,7 @@ fn pairs_of(alloc: Global, value: Value, name: &str) -> Result<Vec<(String, Stri
     }
 }
 
-// Takes the pairs of texts out of a field that has to be there.
+// Takes the pairs of texts out of a required field.
 pub(crate) fn take_needed_pairs(
     alloc: Global,
     body: &mut Value,
@@ -172,7 +172,7 @@ pub(crate) fn take_needed_pairs(
     }
 }
 
-// Takes the pairs of texts out of a field that may be missing.
+// Takes the pairs of texts out of an optional field.
 pub(crate) fn take_pairs(
     alloc: Global,
     body: &mut Value,

@@ -4,17 +4,17 @@ ghost use Rattle.http_bodies.specs.Flaws.{bad_body, body_flaw_of};
 
 use std::alloc::Global;
 
-/// Why a body says nothing.
+/// Why a body was not read.
 #[derive(PartialEq, Debug, Drop)]
 pub enum BodyFault {
-    /// The field is missing, has another kind of value or is not one of the body's; an empty name: the body is no JSON
-    /// object.
+    /// The field is missing, has another kind of value or is not one of the body's. With an empty name, the body is not
+    /// a JSON object.
     BadBody { field: String },
     /// The size is above 5 TiB.
     BadSize,
-    /// The name is that of no storage class.
+    /// The name is not that of a storage class.
     UnsupportedClass { name: String },
-    /// There are more than 10 tags, a key has not 1 to 128 characters, or a value has more than 256.
+    /// There are more than 10 tags, a key does not have 1 to 128 characters, or a value has more than 256.
     BadTags,
     /// Memory ran out.
     NoMemory,

@@ -9,17 +9,17 @@ use class_rules::Class;
 use office_base::Tags;
 use std::alloc::Global;
 
-/// What the body says that starts a multipart upload.
+/// The contents of the body that starts a multipart upload.
 #[derive(Drop)]
 pub struct UploadBody {
-    /// The storage class of the object; STANDARD where the body names none.
+    /// The storage class of the object; STANDARD if the body names none.
     pub class: Class,
     /// Its tags.
     pub tags: Tags,
 }
 
-/// Reads the body that starts a multipart upload: a JSON object with, where they are wanted, `class`, the name of a
-/// storage class, and `tags`, an object of texts. An empty body counts as `{}`.
+/// Reads the body that starts a multipart upload: a JSON object with two optional fields. `class` is the name of a
+/// storage class, and `tags` is an object of texts. An empty body counts as `{}`.
 ///
 /// Rule: S3 User Guide, "Uploading and copying objects using multipart upload", "Understanding and managing Amazon S3
 /// storage classes" and "Categorizing your objects using tags". Own rules: those of `read_put`.
@@ -27,9 +27,9 @@ pub struct UploadBody {
 ///
 /// # Errors
 ///
-/// The first of these that is so. `BadBody`, with an empty field: the bytes are no JSON object. `BadBody`, with the
-/// field: it is none of the two (of these the first in the order of their bytes); `class` is no text; `tags` is no
-/// object of texts. `UnsupportedClass`, `BadTags`: a value is out of range. `NoMemory`: memory ran out.
+/// The first of these that applies. `BadBody` with an empty field: the bytes are not a JSON object. `BadBody` with a
+/// field: it is neither of the two (if several are not, the first in byte order); `class` is not a text; `tags` is not
+/// an object of texts. `UnsupportedClass`, `BadTags`: a value is out of range. `NoMemory`: memory ran out.
 #[tactic(auto, unfolding(crate::specs::Multipart::upload_said, crate::specs::Multipart::upload_in_range))]
 pub fn read_upload(alloc: Global, bytes: &[u8]) -> Result<UploadBody, BodyFault>
     ensures exact { BodySays (λ body. body) result (upload_said bytes.now) }
@@ -37,7 +37,7 @@ pub fn read_upload(alloc: Global, bytes: &[u8]) -> Result<UploadBody, BodyFault>
     let mut body = read_object(alloc, bytes, &["class", "tags"])?;
     let class = class_in_range(alloc, text(alloc, &body, "class")?);
     let pairs = take_pairs(alloc, &mut body, "tags")?;
-    // The name is looked up before the pairs are taken out of the body, and told of after them.
+    // The name is looked up before the pairs are taken out of the body, but its fault is reported after theirs.
     Ok(UploadBody {
         class: class?,
         tags: tags_in_range(alloc, pairs)?,
@@ -46,13 +46,13 @@ pub fn read_upload(alloc: Global, bytes: &[u8]) -> Result<UploadBody, BodyFault>
 
 /// Reads the size of a part in bytes: a JSON object with `size`, a whole number. An empty body counts as `{}`.
 ///
-/// Own rules: a whole number is written as an integer; which sizes a part may have is not asked here.
+/// Own rules: a whole number is written as an integer; the range of a part's size is not checked here.
 /// Cost: one pass over the bytes, and memory for their values.
 ///
 /// # Errors
 ///
-/// `BadBody`, with an empty field: the bytes are no JSON object. `BadBody`, with the field: it is not `size` (of these
-/// the first in the order of their bytes); `size` is missing or no whole number from 0 to 2^64 - 1. `NoMemory`: memory
+/// `BadBody` with an empty field: the bytes are not a JSON object. `BadBody` with a field: it is not `size` (if several
+/// are not, the first in byte order); `size` is missing or not a whole number from 0 to 2^64 - 1. `NoMemory`: memory
 /// ran out.
 #[tactic(auto, unfolding(crate::specs::Multipart::part_of))]
 pub fn read_part(alloc: Global, bytes: &[u8]) -> Result<u64, BodyFault>

@@ -9,33 +9,33 @@ use class_rules::Class;
 use office_base::{Size, Tags};
 use std::alloc::Global;
 
-/// What the body of a PUT of an object says.
+/// The contents of the body of a PUT of an object.
 #[derive(Drop)]
 pub struct PutBody {
     /// The size of the object.
     pub size: Size,
-    /// Its storage class; STANDARD where the body names none.
+    /// Its storage class; STANDARD if the body names none.
     pub class: Class,
     /// Its tags.
     pub tags: Tags,
 }
 
-/// Reads the body of a PUT of an object: a JSON object with `size`, a whole number of bytes, and, where they are
-/// wanted, `class`, the name of a storage class, and `tags`, an object of texts. An empty body counts as `{}`.
+/// Reads the body of a PUT of an object: a JSON object with `size`, a whole number of bytes, and two optional fields.
+/// `class` is the name of a storage class, and `tags` is an object of texts. An empty body counts as `{}`.
 ///
 /// Rule: RFC 8259; S3 User Guide, "Uploading objects" (sizes), "Understanding and managing Amazon S3 storage classes"
-/// and "Categorizing your objects using tags". Own rules: of a name that stands twice in an object the last value
-/// counts; a missing class is STANDARD; null is no missing value; a whole number is written as an integer, not as
-/// `1.0` or `1e3`.
+/// and "Categorizing your objects using tags". Own rules: if a name occurs twice in an object, the last value counts; a
+/// missing class is STANDARD; null does not count as missing; a whole number is written as an integer, not as `1.0` or
+/// `1e3`.
 /// Cost: one pass over the bytes, and memory for their values.
 ///
 /// # Errors
 ///
-/// The first of these that is so. `BadBody`, with an empty field: the bytes are no JSON object, or one that serde_json
-/// does not read (not UTF-8, more than 127 deep, a number too large for a float). `BadBody`, with the field: it is none
-/// of the three (of these the first in the order of their bytes); `size` is missing or no whole number from 0 to
-/// 2^64 - 1; `class` is no text; `tags` is no object of texts. `BadSize`, `UnsupportedClass`, `BadTags`: a value is out
-/// of range. `NoMemory`: memory ran out.
+/// The first of these that applies. `BadBody` with an empty field: the bytes are not a JSON object, or serde_json does
+/// not read them (not UTF-8, more than 127 deep, a number too large for a float). `BadBody` with a field: it is none of
+/// the three (if several are not, the first in byte order); `size` is missing or not a whole number from 0 to 2^64 - 1;
+/// `class` is not a text; `tags` is not an object of texts. `BadSize`, `UnsupportedClass`, `BadTags`: a value is out of
+/// range. `NoMemory`: memory ran out.
 #[tactic(auto, unfolding(crate::specs::Puts::put_of, crate::specs::Puts::put_in_range))]
 pub fn read_put(alloc: Global, bytes: &[u8]) -> Result<PutBody, BodyFault>
     ensures exact { BodySays (λ body. body) result (put_of bytes.now) }
@@ -44,7 +44,7 @@ pub fn read_put(alloc: Global, bytes: &[u8]) -> Result<PutBody, BodyFault>
     let size = whole_number(alloc, &body, "size")?;
     let class = class_in_range(alloc, text(alloc, &body, "class")?);
     let pairs = take_pairs(alloc, &mut body, "tags")?;
-    // The name is looked up before the pairs are taken out of the body, and told of after them.
+    // The name is looked up before the pairs are taken out of the body, but its fault is reported after theirs.
     Ok(PutBody {
         size: size_in_range(size)?,
         class: class?,

@@ -1,4 +1,4 @@
-// What fields hold, in range.
+// The values of fields, in range.
 ghost use Rattle.std.specs.Prelude.{◌≡◌, option_map, IfSome};
 ghost use Rattle.office_base.specs.Tags.{tags_of};
 ghost use Rattle.http_bodies.specs.Flaws.{BodySays, body_flaw_of, unsupported_class};
@@ -18,7 +18,7 @@ pub(crate) fn size_in_range(bytes: u64) -> Result<Size, BodyFault>
     }
 }
 
-// The fault of a name that no class has.
+// The fault of a name that is not that of a class.
 fn unsupported(alloc: Global, name: &str) -> BodyFault
     ensures { IfSome (body_flaw_of result) (λ flaw. flaw ≡ unsupported_class name.now) }
 {

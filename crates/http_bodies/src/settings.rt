@@ -16,9 +16,9 @@ use std::alloc::Global;
 ///
 /// # Errors
 ///
-/// `BadBody`, with an empty field: the bytes are no JSON object. `BadBody`, with the field: it is not `Status` (of
-/// these the first in the order of their bytes); `Status` is missing, or is neither of the two texts. `NoMemory`:
-/// memory ran out.
+/// `BadBody` with an empty field: the bytes are not a JSON object. `BadBody` with a field: it is not `Status` (if
+/// several are not, the first in byte order); `Status` is missing, or is neither of the two texts. `NoMemory`: memory
+/// ran out.
 #[tactic(auto, unfolding(crate::specs::Settings::versioning_of))]
 pub fn read_status(alloc: Global, bytes: &[u8]) -> Result<bool, BodyFault>
     ensures exact { BodySays (λ enabled. enabled) result (versioning_of bytes.now) }
@@ -30,13 +30,13 @@ pub fn read_status(alloc: Global, bytes: &[u8]) -> Result<bool, BodyFault>
 /// Reads the tags that a version is to have: a JSON object with `tags`, an object of texts. An empty body counts as
 /// `{}`.
 ///
-/// Rule: S3 User Guide, "Categorizing your objects using tags". Own rule: the tags have to be there, and may be none.
+/// Rule: S3 User Guide, "Categorizing your objects using tags". Own rule: the field is required, and may have no tags.
 /// Cost: one pass over the bytes, and memory for their values.
 ///
 /// # Errors
 ///
-/// `BadBody`, with an empty field: the bytes are no JSON object. `BadBody`, with the field: it is not `tags` (of these
-/// the first in the order of their bytes); `tags` is missing or no object of texts. `BadTags`: the tags are out of
+/// `BadBody` with an empty field: the bytes are not a JSON object. `BadBody` with a field: it is not `tags` (if several
+/// are not, the first in byte order); `tags` is missing or not an object of texts. `BadTags`: the tags are out of
 /// range. `NoMemory`: memory ran out.
 #[tactic(auto, unfolding(crate::specs::Settings::tagging_of))]
 pub fn read_tags(alloc: Global, bytes: &[u8]) -> Result<Tags, BodyFault>
