@@ -1,4 +1,4 @@
--- What a refusal tells of a request.
+-- What a refusal says of a request.
 use Rattle.std.specs.Prelude.{◌≡◌, Option, Some, None, option_map, IsSomeAnd, Result, Ok, Err, ⊤}
 use Rattle.rules_core.specs.Configurations.{Configuration}
 use Rattle.rules_json.specs.Faults.{told_fault}
@@ -18,7 +18,7 @@ use Rattle.http_asks.specs.declared.bad.Bad.TheVariants.{BadToken, TokenNotServe
 use Rattle.http_asks.specs.declared.bad.Fault.{Fault}
 use Rattle.http_asks.specs.declared.bad.Fault.TheVariants as faults
 
--- the rule that was broken, with its texts as bytes; none where memory ran out for a body
+-- the rule that was broken, with its texts as bytes; none if memory ran out for a body
 abbrev pub refused_of : Bad → Option Refused
 refused_of (Framing framing) = Some (in_framing framing)
 refused_of NoRoute = Some no_route
@@ -35,7 +35,7 @@ refused_of (Tariff fault) = option_map in_tariff (tariff_flaw_of fault)
 refused_of BadToken = Some bad_token
 refused_of TokenNotServed = Some token_not_served
 
--- P of what is told of the rule that was broken, where memory did not run out
+-- P of the rule that was broken, unless memory ran out
 abbrev pub OnBroken : Fault → (Option Refused → Type 0) → Type 0
 OnBroken (faults.Bad bad) P = P (refused_of bad)
 OnBroken faults.NoMemory P = ⊤
@@ -45,7 +45,7 @@ abbrev pub HasFlaw : {T : Type 0} → Result T BodyFlaw → Option Refused → T
 HasFlaw (Ok said) broken = ⊥
 HasFlaw (Err flaw) broken = broken ≡ Some (in_body flaw)
 
--- an answer is what a body says, or its flaw
+-- the answer is what a body says, or its flaw
 abbrev pub IsFromBody : {T : Type 0} → Result T BodyFlaw → Result T Fault → Type 0
 IsFromBody said (Ok value) = said ≡ Ok value
 IsFromBody said (Err fault) = OnBroken fault (HasFlaw said)
@@ -60,17 +60,17 @@ abbrev pub HasPriceFlaw : Result Prices TariffFlaw → Option Refused → Type 0
 HasPriceFlaw (Ok tariff) broken = ⊥
 HasPriceFlaw (Err flaw) broken = broken ≡ Some (in_tariff flaw)
 
--- an answer is what a part of the path is read as, or this refusal
+-- the answer is what a part of the path is read as, or this refusal
 abbrev pub IsFromPath : {T : Type 0} → Option T → Refused → Result T Fault → Type 0
 IsFromPath part refused (Ok value) = part ≡ Some value
 IsFromPath part refused (Err fault) = OnBroken fault (λ broken. (broken ≡ Some refused) × (part ≡ None))
 
--- an answer is what a request means, unless memory ran out
+-- the answer is what a request means, unless memory ran out
 abbrev pub IsMeaning : Result Ask Fault → Meant → Type 0
 IsMeaning (Ok ask) meant = asks ask ≡ meant
 IsMeaning (Err fault) meant = OnBroken fault (λ broken. option_map refuses broken ≡ Some meant)
 
--- P of what was read, where memory did not run out
+-- P of what was read, unless memory ran out
 abbrev pub OnMeant : Result Ask Fault → (Meant → Type 0) → Type 0
 OnMeant (Ok ask) P = P (asks ask)
 OnMeant (Err fault) P = OnBroken fault (λ broken. IsSomeAnd broken (λ rule. P (refuses rule)))

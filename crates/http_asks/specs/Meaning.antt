@@ -1,5 +1,5 @@
--- What a request means, by its target, its method, its body and the token that it carries. Methods are compared as they
--- stand (RFC 9110, "Methods").
+-- What a request means, given its target, its method, its body and its token. Methods are case-sensitive (RFC 9110,
+-- "Methods").
 use Rattle.std.specs.Prelude.{◌≡◌, ◌⊎◌, ℕ, List, [], ◌∷◌, codes, bytes_eq, if◌then◌else◌}
 use Rattle.std.specs.Prelude.{Option, Some, None, Result, Ok, Err}
 use Rattle.office_base.specs.Keys.{is_key}
@@ -37,9 +37,9 @@ use Rattle.http_asks.specs.declared.method.Method.{Method}
 use Rattle.http_asks.specs.declared.method.Method.TheVariants as methods
 use Rattle.http_asks.specs.Numbers.{number_in, version_in, part_in}
 
--- the rule that a request breaks: of what names a part of its path, or of what a body, a lifecycle configuration or a
--- tariff says; in_framing: of how a message is framed; no_route: the target leads nowhere (own); bad_method: what it
--- leads to does not serve the method (own); bad_token, token_not_served: of the token that it carries
+-- the rule that a request breaks. in_framing: how a message is framed; no_route: the target names nothing (own);
+-- bad_method: the resource does not serve the method (own); bad_token, token_not_served: the token. The others are of a
+-- part of the path, or of what a body, a lifecycle configuration or a tariff says.
 pub data Refused : Type 0 where
   in_framing : FramingRefusal → Refused
   no_route : Refused
@@ -72,48 +72,48 @@ method_of text =
     else if bytes_eq text (codes "DELETE") then methods.Delete
     else methods.Other
 
--- this, where the bucket has a name
+-- this, if the name is that of a bucket
 abbrev pub if_name : List ℕ → Meant → Meant
 if_name name meant = if is_bucket_name name then meant else refuses bad_bucket_name
 
--- this of what a part of the path is read as, or this refusal
+-- this of what a part of the path is read as; this refusal if it is not read
 abbrev pub by_part : {T : Type 0} → Option T → Refused → (T → Meant) → Meant
 by_part None refused meant = refuses refused
 by_part (Some part) refused meant = meant part
 
--- this of what a body says, or its flaw
+-- this of what a body says; its flaw if it has one
 abbrev pub by_body : {T : Type 0} → Result T BodyFlaw → (T → Meant) → Meant
 by_body (Ok said) meant = meant said
 by_body (Err flaw) meant = refuses (in_body flaw)
 
--- this of a lifecycle configuration, or what its text breaks
+-- this of a lifecycle configuration; the rule that its text breaks if it breaks one
 abbrev pub by_rules : Result Configuration RulesFault → (Configuration → Meant) → Meant
 by_rules (Ok rules) meant = meant rules
 by_rules (Err fault) meant = refuses (in_rules fault)
 
--- this of a tariff, or what its text breaks
+-- this of a tariff; the rule that its text breaks if it breaks one
 abbrev pub by_tariff : Result Prices TariffFlaw → (Prices → Meant) → Meant
 by_tariff (Ok tariff) meant = meant tariff
 by_tariff (Err flaw) meant = refuses (in_tariff flaw)
 
--- this, of the month that a part of the path is
+-- this of the month that a part of the path names
 abbrev pub by_month : List ℕ → (ℕ → Meant) → Meant
 by_month part meant =
     if is_month part then meant (month_number (year_in part) (month_in part)) else refuses not_a_month
 
--- this, of the id of a version
+-- this of the id of a version
 abbrev pub by_version : List ℕ → (VersionId → Meant) → Meant
 by_version id meant = by_part (version_in id) no_such_version meant
 
--- this, of the number of an upload
+-- this of the number of an upload
 abbrev pub by_upload : List ℕ → (ℕ → Meant) → Meant
 by_upload id meant = by_part (number_in id) no_such_upload meant
 
--- this, of the key of an object, which a part of the path spells
+-- this of the key of an object, which a part of the path spells
 abbrev pub by_object_key : List ℕ → (List ℕ → Meant) → Meant
 by_object_key part meant = if is_key (key_of part) then meant (key_of part) else refuses bad_key
 
--- ---- what is asked: the parts of the path from left to right, then the body
+-- ---- what is asked: the parts of the path are checked from left to right, then the body
 
 -- a lifecycle configuration is set
 abbrev pub set_rules_meant : List ℕ → List ℕ → Meant
@@ -152,7 +152,7 @@ start_meant name part body =
     if_name name (by_object_key part (λ key.
     by_body (upload_said body) (λ said. asks (Command (StartUpload name key said.class said.tags)))))
 
--- an upload is asked for, completed or aborted
+-- an upload is asked for
 abbrev pub shown_meant : List ℕ → List ℕ → Meant
 shown_meant name id = if_name name (by_upload id (λ upload. asks (Query (Upload name upload))))
 
@@ -174,7 +174,7 @@ put_part_meant name id part body =
 abbrev pub set_tariff_meant : List ℕ → Meant
 set_tariff_meant body = by_tariff (tariff_of body) (λ tariff. asks (Command (SetTariff tariff)))
 
--- ---- the routes: what a method asks of what the target names; a resource that does not serve it refuses it first
+-- ---- the routes: what a method asks of a resource; a method that the resource does not serve is refused first
 
 -- a bucket
 unfoldable pub bucket_meant : Method → List ℕ → Meant
@@ -287,33 +287,33 @@ Means target method body meant =
 
 -- ---- the token
 
--- a command with a token is asked once, where it may carry one
+-- a command with a token is asked once, if it may carry one
 abbrev pub with_token : List ℕ → command.Command → Meant
 with_token token asked = if takes_token asked then asks (Once token asked) else refuses token_not_served
 
--- a command with the value of such a field
+-- a command with the value of a field that carries a token
 abbrev pub with_value : List ℕ → command.Command → Meant
 with_value value asked = if is_token value then with_token value asked else refuses bad_token
 
--- what a request with such fields means: two are refused with a command, and for a query, as where something else is
--- refused, they are passed over (own)
+-- what a request with these fields that carry a token means: with a command, two fields are refused; with a query, or
+-- with another refusal, they are ignored (own)
 abbrev pub with_fields : List Field → Meant → Meant
 with_fields [] meant = meant
 with_fields (field ∷ []) (asks (Command asked)) = with_value (field_value field) asked
 with_fields (field ∷ other ∷ fields) (asks (Command asked)) = refuses bad_token
 with_fields fields meant = meant
 
--- a request with these fields that carry a token, and with this target, method and body means this
+-- a request with these fields that carry a token, and with this target, method and body, means this
 abbrev pub MeansWith : List Field → List ℕ → List ℕ → List ℕ → Meant → Type 0
 MeansWith fields target method body meant =
     (bare : Meant) × Means target method body bare × (meant ≡ with_fields fields bare)
 
--- the same of a request that stands in a stream
+-- the same of a request in a stream
 abbrev pub IsMeant : Request → Meant → Type 0
 IsMeant r meant = MeansWith (token_fields r.head) r.head.target r.head.method r.body meant
 
 -- ---- laws
 
--- a request means one thing
+-- a request has only one meaning
 abbrev pub MeansOneThing : Type 0
 MeansOneThing = (r : Request) (first second : Meant) → IsMeant r first → IsMeant r second → first ≡ second

@@ -1,4 +1,4 @@
--- Numbers and ids, as parts of a path write them.
+-- Numbers and ids, as parts of a path spell them.
 use Rattle.std.specs.Prelude.{ℕ, ◌^◌, Bool, ◌&&◌, nat_lt, nat_le, List, length, codes, if◌then◌else◌}
 use Rattle.std.specs.Prelude.{Option, Some, None, option_map}
 use Rattle.std.specs.Char.{is_ascii_digit}
@@ -17,7 +17,7 @@ are_digits text = list_all is_ascii_digit text
 abbrev pub is_number : List ℕ → Bool
 is_number text = are_digits text && begins_with_number text && nat_lt (digits_value 10 text) (2 ^ 64)
 
--- the number that such digits write (own)
+-- the number that such digits spell (own)
 unfoldable pub number_in : List ℕ → Option ℕ
 number_in text = if is_number text then Some (digits_value 10 text) else None
 
@@ -29,6 +29,6 @@ version_in text = if bytes_eq text (codes "null") then Some Null else option_map
 abbrev pub is_part_number : List ℕ → Bool
 is_part_number text = nat_lt 0 (length text) && nat_le (length text) 5 && are_digits text
 
--- the number of a part of an upload, with leading zeros or without them (own)
+-- the number of a part of an upload, with or without leading zeros (own)
 unfoldable pub part_in : List ℕ → Option ℕ
 part_in text = if is_part_number text then Some (digits_value 10 text) else None

@@ -41,7 +41,7 @@ fn route_ask(alloc: Global, route: Route<'_>, method: Method, body: &[u8]) -> Re
     }
 }
 
-// What a request asks by its target, its method and its body.
+// What a request asks, given its target, its method and its body.
 fn ask_of(
     alloc: Global,
     routes: &Routes,
@@ -57,8 +57,8 @@ fn ask_of(
     }
 }
 
-/// Reads what a request asks by its target, its method and its body, with the fields Office-Token of its head that were
-/// found in some bytes.
+/// Reads what a request asks, given its target, its method and its body, and the fields Office-Token that were found in
+/// its head.
 pub(crate) fn whole_ask(
     alloc: Global,
     routes: &Routes,

@@ -11,24 +11,24 @@ use http_wire::FramingRefusal;
 use rules_json::RulesFault;
 use tariff::TariffFault;
 
-/// Refusals that a message's own text decides. What is heard is never one for want of memory.
+/// Refusals that the text of a message alone decides. Running out of memory is never heard as one of them.
 #[derive(Drop)]
 pub enum Bad {
     /// The framing of the message is refused. It is the last of its session.
     Framing(FramingRefusal),
-    /// The target begins with no `/`, has a `?`, or leads nowhere.
+    /// The target does not begin with `/`, has a `?`, or leads nowhere.
     NoRoute,
-    /// What the target leads to does not serve the method.
+    /// The resource does not serve the method.
     BadMethod,
-    /// The text is not `YYYY-MM`, or no month from 1970-01 to 2099-12.
+    /// The text is not `YYYY-MM`, or not a month from 1970-01 to 2099-12.
     NotAMonth,
-    /// The part of the path is out of the range of bucket names.
+    /// The part of the path is not a bucket name.
     BadBucketName,
-    /// The part of the path, percent-decoded, is out of the range of keys.
+    /// The part of the path, percent-decoded, is not a key.
     BadKey,
-    /// The part of the path is not spelled as the id of a version.
+    /// The part of the path is not the id of a version.
     NoSuchVersion,
-    /// The part of the path is not spelled as the number of an upload.
+    /// The part of the path is not the number of an upload.
     NoSuchUpload,
     /// The part of the path is not 1 to 5 digits.
     BadPart,
@@ -38,9 +38,9 @@ pub enum Bad {
     Rules(RulesFault),
     /// The body breaks a rule of tariffs.
     Tariff(TariffFault),
-    /// A command has two fields Office-Token, or one whose value is no token.
+    /// A command has two fields Office-Token, or one whose value is not a token.
     BadToken,
-    /// A command that may not carry a token has one.
+    /// A command has a token and may not carry one.
     TokenNotServed,
 }
 

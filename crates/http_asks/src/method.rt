@@ -2,7 +2,7 @@
 ghost use Rattle.std.specs.Prelude.{◌≡◌};
 ghost use Rattle.http_asks.specs.Meaning.{method_of};
 
-/// The method of a request. A resource serves some of those that have a name here.
+/// The method of a request. Each resource serves some of the first four.
 #[derive(Clone, Copy, Debug, PartialEq, Eq)]
 pub(crate) enum Method {
     /// A resource is shown.
@@ -18,7 +18,7 @@ pub(crate) enum Method {
 }
 
 impl Method {
-    /// Reads a method as it stands.
+    /// Reads a method; upper and lower case differ.
     #[tactic(auto, unfolding(crate::specs::Meaning::method_of))]
     pub(crate) fn read(text: &[u8]) -> Method
         ensures { result ≡ method_of text.now }

@@ -64,7 +64,7 @@ pub(crate) fn version_id(part: &str) -> Result<VersionId, Fault>
     }
 }
 
-// The number of an upload is written as that of a version.
+// The number of an upload is spelled like that of a version.
 #[tactic(auto, using(crate::proofs::NumberLemmas::upload_texts))]
 pub(crate) fn upload_number(part: &str) -> Result<u64, Fault>
     ensures { IsFromPath (number_in part.now) no_such_upload result }
@@ -84,7 +84,7 @@ fn are_digits(text: &str) -> bool
     text.as_bytes().iter().all(|byte| byte.is_ascii_digit())
 }
 
-// The text is 1 to 5 digits.
+// Whether the text is 1 to 5 digits.
 fn is_part_number(text: &str) -> bool
     ensures { result ≡ is_part_number text.now }
 {

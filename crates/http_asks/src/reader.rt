@@ -23,7 +23,7 @@ use office_types::Ask;
 use std::alloc::Global;
 use std::marker::Model;
 
-/// What stands at the front of a stream.
+/// What a stream begins with.
 #[derive(Drop)]
 pub enum Heard {
     /// A request that asks something.
@@ -37,14 +37,14 @@ pub enum Heard {
     Bad {
         /// The rule that it breaks.
         bad: Bad,
-        /// Whether it is the last of its session, as each is whose framing is refused.
+        /// Whether it is the last of its session. It is, if its framing is refused.
         last: bool,
     },
     /// The end of the stream.
     End,
 }
 
-/// What reads the messages of a stream, one after another: the bytes that were taken and not used, and the routes.
+/// Reads the messages of a stream, one after another. It holds the bytes taken and not yet used, and the routes.
 #[derive(Drop)]
 pub struct Reader {
     buffer: Buffer,
@@ -108,45 +108,45 @@ impl Reader {
         }
     }
 
-    /// Reads the next message, and takes its bytes from the buffer. What the framing refuses has no end, and stays.
+    /// Reads the next message, and drops its bytes from the buffer. The bytes of a message with refused framing stay.
     ///
     /// # Errors
     ///
-    /// `Spent`: 2^40 = 1,099,511,627,776 bytes were taken and a further read is needed, also where it would find the
+    /// `Spent`: 2^40 = 1,099,511,627,776 bytes were taken and a further read is needed, even one that would find the
     /// end. `ReadFault`: the source failed. `NoMemory`: memory ran out for a request whose head was read. Nothing was
-    /// heard then, and nothing is promised of a later call.
+    /// heard then, and a later call promises nothing.
     pub fn next<R: Source>(&mut self, alloc: Global, source: &mut R) -> Result<Heard, MessageStop>
         ensures tells { IfOk result (λ heard. TellsHeard (prepend_known self.old.bytes (R.left source.old)) heard
             (prepend_known self.new.bytes (R.left source.new))) }
-        // A message has one meaning, and one stands at the front of a stream: the first of the whole stream's.
+        // A message has one meaning, a stream begins with one message, and that is the first of the whole stream's.
         ensures one_meaning { MeansOneThing }
         ensures one_item { HasOneItem }
         ensures of_whole { ItemsAreMessages }
         ensures given { Given self.old.taken self.new.taken (R.left source.old) (R.left source.new) }
         ensures limit { self.new.taken ≤ take_limit }
-        // Whatever is answered, a head and a body at most were held and taken.
+        // In every case, at most one head and one body are held and taken.
         ensures ahead { TakesFew self.old self.new }
         // A request has at least one byte.
         ensures uses { OnFramed result
             (self.old.taken + length self.new.bytes < self.new.taken + length self.old.bytes) }
-        // At most so many bytes are held behind it.
+        // At most 8,192 bytes after it are held.
         ensures short { OnFramed result (length self.new.bytes ≤ head_room) }
-        // What is heard is settled by the bytes that were taken, or they are all, and fewer than the limit.
+        // The bytes taken settle what is heard, or the source is at its end, with fewer bytes taken than the limit.
         ensures enough { IfOk result (λ _. Gave self.old self.new (R.left source.old) (R.left source.new)
             (AreEnough self.new.taken (R.left source.new))) }
-        // The end is found by a read, so fewer bytes than the limit were taken.
+        // Only a read finds the end, so fewer bytes than the limit were taken.
         ensures at_end { result ≡ Ok Heard.End → (self.new.taken < take_limit) × IsAtEnd (R.left source.new) }
         ensures spent { IsErrOf result MessageStop.Spent → (self.new.taken ≡ take_limit)
             × Gave self.old self.new (R.left source.old) (R.left source.new) IsUnsettled }
-        // The source fails only where what was taken settles nothing.
+        // The source fails only if the bytes taken settle nothing.
         ensures failed { IsErrOf result MessageStop.ReadFault
             → Gave self.old self.new (R.left source.old) (R.left source.new) IsUnsettled }
-        // Memory is wanted for a request whose head was read.
+        // Memory is needed only for a request whose head was read.
         ensures no_memory { IsErrOf result MessageStop.NoMemory
             → Gave self.old self.new (R.left source.old) (R.left source.new) WantsMemory }
-        // A message whose bytes are held is heard without a read.
+        // A message that the bytes held settle is heard without a read.
         ensures settled { (IsUnsettled self.old.bytes → ⊥) → source.new ≡ source.old }
-        // The source failed exactly where this is told.
+        // This error is returned if and only if the source failed.
         ensures only_reads { OnlyReads R.Source source.old source.new (IsErrOf result MessageStop.ReadFault) }
     {
         match read_message(alloc, source, &mut self.buffer) {

@@ -40,7 +40,7 @@ fn with_found(alloc: Global, bytes: &[u8], found: Found, command: Command) -> Re
     }
 }
 
-/// The ask with the fields Office-Token that were found. For a query they are passed over.
+/// The ask with the fields Office-Token that were found. With a query they are ignored.
 pub(crate) fn ask_with(alloc: Global, bytes: &[u8], found: Found, ask: Ask) -> Result<Ask, Fault>
     requires lies { LiesIn (length bytes.now) found }
     ensures { (fields : List Field) → IsFound bytes.now found fields
