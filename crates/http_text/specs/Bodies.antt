@@ -35,12 +35,12 @@ pub data Body : Type 0 where
 
 -- ---- a lifecycle action
 
--- the class that an object moves to
+-- the class that an object moves to; other actions have none
 abbrev pub class_fields : ActionKind → List (List ℕ × Data)
 class_fields (action.Transition class) = (codes "class", class_data class) ∷ []
 class_fields other = []
 
--- the delete marker that was made
+-- the delete marker that was made, if one was
 abbrev pub marker_fields : Option VersionId → List (List ℕ × Data)
 marker_fields None = []
 marker_fields (Some id) = (codes "marker", id_data id) ∷ []
@@ -64,17 +64,17 @@ abbrev pub version_fields : Version → List (List ℕ × Data)
 version_fields version =
     (codes "version", id_data version.id) ∷ (codes "created", moment_data version.created) ∷ kind_fields version.kind
 
--- one that is noncurrent since a moment, or the current one
+-- a version that has been noncurrent since this moment, or the current one
 abbrev pub dated_version : Option ℕ → Version → Data
 dated_version None version = json_object (version_fields version)
 dated_version (Some since) version =
     json_object ((codes "noncurrent_since", moment_data since) ∷ version_fields version)
 
--- one that is noncurrent since it ceased to be the current one
+-- a version that has been noncurrent since it ceased to be current
 abbrev pub noncurrent_version : Version → Data
 noncurrent_version version = dated_version (Some version.ceased) version
 
--- the versions of a stack, where all but the current one tell since when they are noncurrent
+-- the versions of a stack; each except the current one has the moment since which it has been noncurrent
 abbrev pub versions_data : List Version → List Data
 versions_data [] = []
 versions_data (current ∷ noncurrent) = dated_version None current ∷ map noncurrent_version noncurrent
@@ -85,8 +85,8 @@ versions_data (current ∷ noncurrent) = dated_version None current ∷ map nonc
 abbrev pub part_data : ℕ × Part → Data
 part_data part = json_object ((codes "part", whole_data part.0) ∷ (codes "size", whole_data part.1.size) ∷ [])
 
--- byte-milliseconds are texts of digits (own), since they may be larger than what a reader's numbers hold (RFC 8259,
--- "Numbers")
+-- what was used of a class; byte-milliseconds are texts of digits (own), because they may be too large for the numbers
+-- of a reader (RFC 8259, "Numbers")
 abbrev pub meters_data : ClassMeters → Data
 meters_data meters = json_object (
     (codes "class", class_data meters.class) ∷ (codes "byte_ms", digits_of meters.byte_ms)
@@ -101,7 +101,7 @@ upto_fields (Some upto) = (codes "upto", whole_data upto) ∷ []
 abbrev pub tier_data : Tier → Data
 tier_data tier = json_object ((codes "price", whole_data tier.price) ∷ upto_fields tier.upto)
 
--- the tiers of a class: one is its price alone, several are a list
+-- the tiers of a class: a single tier is only its price, several are a list
 abbrev pub tiers_data : List Tier → Data
 tiers_data (tier ∷ []) = whole_data tier.price
 tiers_data tiers = array_of (map tier_data tiers)
@@ -110,11 +110,11 @@ tiers_data tiers = array_of (map tier_data tiers)
 abbrev pub price_fields : (Class → Data) → List Class → List (List ℕ × Data)
 price_fields price classes = map (λ class. (class_name class, price class)) classes
 
--- by rank from STANDARD on
+-- the prices of storage, by rank from STANDARD on
 abbrev pub storage_data : Prices → Data
 storage_data tariff = json_object (price_fields (λ class. tiers_data (storage_tiers tariff class)) all_classes)
 
--- the prices of moves, from STANDARD_IA on: none goes to STANDARD
+-- the prices of moves, by rank from STANDARD_IA on, because nothing moves to STANDARD
 abbrev pub moves_data : Prices → Data
 moves_data tariff = json_object (price_fields (λ class. whole_data (move_price tariff class)) (drop 1 all_classes))
 
@@ -124,13 +124,13 @@ tariff_data tariff = json_object (
     (codes "from", string (month_text tariff.from)) ∷ (codes "storage", storage_data tariff)
     ∷ (codes "transition", moves_data tariff) ∷ [])
 
--- ---- these as they are written
+-- ---- the same as written
 
 -- what was used of some classes, as a list
 unfoldable pub classes_text : List ClassMeters → List ℕ
 classes_text classes = compact_text (array_of (map meters_data classes))
 
--- a version, with since when it is noncurrent where it is
+-- a version, with the moment since which it has been noncurrent, if any
 unfoldable pub version_text : Option ℕ → Version → List ℕ
 version_text since version = compact_text (dated_version since version)
 
@@ -150,7 +150,7 @@ parts_text parts = compact_text (array_of (map part_data parts))
 unfoldable pub tiers_text : List Tier → List ℕ
 tiers_text tiers = compact_text (tiers_data tiers)
 
--- tiers as a list, however many there are
+-- tiers as a list, even a single one
 unfoldable pub tier_list_text : List Tier → List ℕ
 tier_list_text tiers = compact_text (array_of (map tier_data tiers))
 

@@ -9,7 +9,7 @@ use Rattle.office_base.specs.Tags.{Tag}
 use Rattle.office_base.specs.Versions.{id_text}
 use Rattle.office_base.specs.declared.version_id.VersionId.{VersionId}
 
--- an object with these members, whatever their order here; they are written in byte order of their names
+-- an object with these members, in any order; they are written in byte order of their names
 abbrev pub members : List (List ℕ × Data) → Members
 members [] = no_members
 members ((name, value) ∷ rest) = put name value (members rest)
@@ -28,15 +28,15 @@ digits_of n = string (decimal n)
 
 -- ---- values of the office (own)
 
--- as 2024-01-01T00:00:00.000Z
+-- a moment as 2024-01-01T00:00:00.000Z
 abbrev pub moment_data : ℕ → Data
 moment_data m = string (moment_text m)
 
--- the id of a version is a text, since it may be null
+-- the id of a version is a text, because it may be null
 abbrev pub id_data : VersionId → Data
 id_data id = string (id_text id)
 
--- an object with a member for each tag
+-- a member for each tag
 abbrev pub tag_members : List Tag → List (List ℕ × Data)
 tag_members [] = []
 tag_members (tag ∷ tags) = (tag.0, string tag.1) ∷ tag_members tags
@@ -47,10 +47,10 @@ tags_data tags = json_object (tag_members tags)
 
 -- ---- objects with one member
 
--- one text under a name, as it is written
+-- an object with one member, a text, as written
 unfoldable pub text_object : List ℕ → List ℕ → List ℕ
 text_object name text = compact_text (json_object ((name, string text) ∷ []))
 
--- one number under a name, as it is written
+-- an object with one member, a number, as written
 unfoldable pub number_object : List ℕ → ℕ → List ℕ
 number_object name n = compact_text (json_object ((name, whole_data n) ∷ []))

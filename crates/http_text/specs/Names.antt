@@ -10,12 +10,12 @@ use Rattle.office_types.specs.declared.refusal.What.{What}
 use Rattle.office_types.specs.declared.refusal.What.TheVariants.{Buckets, Versions, Uploads, Parts, Names, Rules}
 use Rattle.office_types.specs.declared.refusal.What.TheVariants.{Tariffs}
 
--- as 2024-01
+-- a month as 2024-01
 unfoldable pub month_text : ℕ → List ℕ
 month_text month =
     two_digits (year_of month / 100) ++ (two_digits (year_of month) ++ (codes "-" ++ two_digits (month_of_year month)))
 
--- S3 User Guide, "How S3 Versioning works"
+-- whether versioning is on (S3 User Guide, "How S3 Versioning works")
 abbrev pub versioning_name : Versioning → List ℕ
 versioning_name Unversioned = codes "Unversioned"
 versioning_name Enabled = codes "Enabled"

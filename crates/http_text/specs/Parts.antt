@@ -1,4 +1,4 @@
--- Members of objects as they are written, with the comma before them.
+-- Members of objects as written, with the comma before them.
 use Rattle.std.specs.Prelude.{ℕ, Bool, List, [], ◌++◌, codes, decimal, Option, Some, None}
 use Rattle.json.specs.Print.{quoted}
 use Rattle.serde_json.specs.Written.{comma_if, compact_text}
@@ -20,7 +20,7 @@ abbrev pub class_part : ActionKind → List ℕ
 class_part (Transition class) = codes ",\"class\":" ++ quoted (class_name class)
 class_part other = []
 
--- the delete marker that was made, where one was
+-- the delete marker that was made, if one was
 abbrev pub marker_part : Option VersionId → List ℕ
 marker_part None = []
 marker_part (Some id) = codes ",\"marker\":" ++ quoted (id_text id)
@@ -30,12 +30,12 @@ abbrev pub target_part : Target → List ℕ
 target_part (Version id) = codes ",\"version\":" ++ quoted (id_text id)
 target_part (Upload number) = codes ",\"upload\":" ++ decimal number
 
--- since when a version is noncurrent; the current one has no such moment
+-- the moment since which a version has been noncurrent; the current one has none
 abbrev pub since_part : Option ℕ → List ℕ
 since_part None = []
 since_part (Some since) = codes ",\"noncurrent_since\":" ++ quoted (moment_text since)
 
--- a tag as a member, with a comma where one stands before it
+-- a tag as a member, after a comma unless it is the first
 abbrev pub tag_part : Bool → Tag → List ℕ
 tag_part later tag = comma_if later ++ (quoted tag.0 ++ (codes ":" ++ quoted tag.1))
 
@@ -44,10 +44,10 @@ abbrev pub upto_part : Option ℕ → List ℕ
 upto_part None = []
 upto_part (Some upto) = codes ",\"upto\":" ++ decimal upto
 
--- a value of a list, with a comma where one stands before it
+-- a value of a list, after a comma unless it is the first
 abbrev pub item_part : Bool → Data → List ℕ
 item_part later value = comma_if later ++ compact_text value
 
--- a part of an upload, likewise
+-- a part of an upload, the same way
 abbrev pub upload_part : Bool → ℕ × Part → List ℕ
 upload_part later part = comma_if later ++ compact_text (part_data part)

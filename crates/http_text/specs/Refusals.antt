@@ -1,4 +1,4 @@
--- What the replies to what is refused hold: a name, a number (own), and what else is told.
+-- The bodies of replies to refused commands and queries: a name, a number (own), and further details.
 use Rattle.std.specs.Prelude.{ℕ, List, [], ◌∷◌, codes}
 use Rattle.serde_json.specs.Data.{Data, string}
 use Rattle.serde_json.specs.Written.{compact_text}
@@ -13,15 +13,15 @@ use Rattle.http_text.specs.Bodies.{target_field}
 use Rattle.http_text.specs.Json.{json_object, whole_data, moment_data}
 use Rattle.http_text.specs.Names.{month_text, what_name}
 
--- a body with the name and the number of what is refused, and with more where there is more to tell
+-- a body with the name and the number of a refusal, and with further members if there are any
 abbrev pub error_data : List ℕ → ℕ → List (List ℕ × Data) → Data
 error_data name n more = json_object ((codes "error", string name) ∷ (codes "number", whole_data n) ∷ more)
 
--- of one that tells nothing else
+-- the same, as written, without further members
 unfoldable pub error_text : List ℕ → ℕ → List ℕ
 error_text name n = compact_text (error_data name n [])
 
--- what each refusal tells, with the month, the moment, the limit or the due action that it names
+-- the body of each refusal, with the month, the moment, the limit or the due action that it names
 abbrev pub refusal_data : Refusal → Data
 refusal_data BucketExists = error_data (codes "BucketExists") 80 []
 refusal_data NoSuchBucket = error_data (codes "NoSuchBucket") 81 []

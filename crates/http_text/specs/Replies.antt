@@ -1,4 +1,4 @@
--- The text of what the office answered: a status, what kind of body follows and how long it is, and the body.
+-- The reply to an answer of the office: a status, the media type and length of the body, and the body.
 use Rattle.std.specs.Prelude.{ℕ, List, [], ◌∷◌, ◌++◌, codes, decimal, length, unwrap_or, Result, Ok, Err}
 use Rattle.http.specs.StatusCode.{reason_phrase}
 use Rattle.serde_json.specs.Written.{compact_text}
@@ -18,7 +18,7 @@ use Rattle.http_text.specs.Refusals.{refusal_data}
 
 -- ---- statuses (RFC 9110, "Status Codes"; own: which one an answer has)
 
--- Created where something new has a name, else OK
+-- Created if something new gets a name, otherwise OK
 abbrev pub reply_status : Reply → ℕ
 reply_status (BucketMade bucket) = 201
 reply_status (Stored moment version) = 201
@@ -54,12 +54,12 @@ status_of (Err refusal) = refusal_status refusal
 
 -- ---- bodies
 
--- what an answer holds; a refusal is told in JSON
+-- the body of an answer; that of a refusal is JSON
 abbrev pub answer_body : Result Reply Refusal → Body
 answer_body (Ok reply) = reply_body reply
 answer_body (Err refusal) = json (refusal_data refusal)
 
--- JSON has no spaces, and the members of each object in byte order (own)
+-- a body as written: JSON has no spaces, and the members of each object are in byte order (own)
 abbrev pub text_of_body : Body → List ℕ
 text_of_body (json value) = compact_text value
 text_of_body (csv text) = text
@@ -74,14 +74,14 @@ body_text answer = text_of_body (answer_body answer)
 abbrev pub crlf : List ℕ
 crlf = 13 ∷ 10 ∷ []
 
--- the head of a reply with so many bytes of this kind of body
+-- the head of a reply whose body has size bytes of this media type
 abbrev pub head_with : List ℕ → ℕ → ℕ → List ℕ
 head_with media status size =
     codes "HTTP/1.1 " ++ (decimal status ++ (codes " " ++ (unwrap_or (reason_phrase status) [] ++ (crlf
     ++ (codes "content-type: " ++ (media ++ (crlf
     ++ (codes "content-length: " ++ (decimal size ++ (crlf ++ crlf))))))))))
 
--- the head of a reply with so many bytes of JSON
+-- the head of a reply with a JSON body of size bytes
 unfoldable pub head_text : ℕ → ℕ → List ℕ
 head_text status size = head_with (codes "application/json") status size
 
@@ -89,11 +89,11 @@ head_text status size = head_with (codes "application/json") status size
 unfoldable pub reply_with : ℕ → List ℕ → List ℕ
 reply_with status body = head_text status (length body) ++ body
 
--- a reply with this status and body, whose head names the kind of the body
+-- a reply with this status and body; its head names the media type of the body
 abbrev pub reply_of : ℕ → Body → List ℕ
 reply_of status (json value) = reply_with status (compact_text value)
 reply_of status (csv text) = head_with (codes "text/csv") status (length text) ++ text
 
--- the whole reply that tells an answer
+-- the whole reply to an answer
 abbrev pub answer_text : Result Reply Refusal → List ℕ
 answer_text answer = reply_of (status_of answer) (answer_body answer)

@@ -137,7 +137,7 @@ fn put_reply(room: &mut [u8], at: usize, reply: &Reply) -> usize
     }
 }
 
-/// Writes the body of an answer at an index, and answers the index after it.
+/// Writes the body of an answer at an index, and returns the index after it.
 pub(crate) fn put_body(room: &mut [u8], at: usize, answer: &Result<Reply, Refusal>) -> usize
     requires fits { AnswerFits answer.now }
     requires in_parts { IsInParts answer.now }

@@ -60,7 +60,7 @@ pub(crate) fn put_target(room: &mut [u8], at: usize, target: Target) -> usize
     }
 }
 
-/// Writes the action that was done, or that is due next.
+/// Writes the action that was done or is due next.
 #[tactic(auto, using(crate::proofs::Small::chosen_small))]
 pub(crate) fn put_chosen(
     room: &mut [u8],

@@ -1,4 +1,4 @@
-//! What the office answered, printed: short answers without memory, the others into memory of their own.
+//! The answers of the office, printed: short ones without memory, the others into memory of their own.
 #![tactic(auto)]
 
 mod body;

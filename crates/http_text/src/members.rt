@@ -12,7 +12,7 @@ use crate::room::{put, put_number, put_quoted};
 use moments::{Month, print_moment};
 use office_base::VersionId;
 
-/// Writes what stands before a text, and the text as a JSON string.
+/// Writes some bytes, and after them the text as a JSON string.
 pub(crate) fn put_text(room: &mut [u8], at: usize, before: &[u8], text: &str) -> usize
     ensures { Puts room.old at room.new result (before.now ++ quoted text.now) }
 {
@@ -20,7 +20,7 @@ pub(crate) fn put_text(room: &mut [u8], at: usize, before: &[u8], text: &str) ->
     put_quoted(room, at, text.as_bytes())
 }
 
-/// Writes what stands before a number, and the number.
+/// Writes some bytes, and after them the number.
 #[tactic(auto, using(crate::proofs::Small::decimal_small))]
 pub(crate) fn put_whole(room: &mut [u8], at: usize, before: &[u8], number: u64) -> usize
     ensures puts { Puts room.old at room.new result (before.now ++ decimal number) }
@@ -30,7 +30,7 @@ pub(crate) fn put_whole(room: &mut [u8], at: usize, before: &[u8], number: u64) 
     put_number(room, at, number)
 }
 
-/// Writes what stands before a moment, and the moment as a JSON string.
+/// Writes some bytes, and after them the moment as a JSON string.
 pub(crate) fn put_moment(room: &mut [u8], at: usize, before: &[u8], ms: u64) -> usize
     requires { ms ≤ end_of_time }
     ensures { Puts room.old at room.new result (before.now ++ quoted (moment_text ms)) }
@@ -39,7 +39,7 @@ pub(crate) fn put_moment(room: &mut [u8], at: usize, before: &[u8], ms: u64) -> 
     put_quoted(room, at, &print_moment(ms))
 }
 
-/// Writes what stands before the id of a version, and the id as a JSON string.
+/// Writes some bytes, and after them the id of a version as a JSON string.
 #[tactic(auto, using(crate::proofs::Small::decimal_small))]
 pub(crate) fn put_id(room: &mut [u8], at: usize, before: &[u8], id: VersionId) -> usize
     ensures puts { Puts room.old at room.new result (before.now ++ quoted (id_text id)) }
@@ -62,7 +62,7 @@ fn two_of(number: u16) -> [u8; 2]
     [b'0' + (number / 10 % 10) as u8, b'0' + (number % 10) as u8]
 }
 
-// As 2024-01.
+// A month as 2024-01.
 #[tactic(auto, unfolding(crate::specs::Names::month_text))]
 fn print_month(month: Month) -> [u8; 7]
     ensures { result ≡ month_text month }
@@ -73,7 +73,7 @@ fn print_month(month: Month) -> [u8; 7]
     [y0, y1, y2, y3, b'-', m0, m1]
 }
 
-/// Writes what stands before a month, and the month as a JSON string.
+/// Writes some bytes, and after them the month as a JSON string.
 pub(crate) fn put_month(room: &mut [u8], at: usize, before: &[u8], month: Month) -> usize
     ensures { Puts room.old at room.new result (before.now ++ quoted (month_text month)) }
 {

@@ -45,7 +45,7 @@ fn put_list(room: &mut [u8], at: usize, tiers: &[Tier]) -> usize
     put(room, at, b"]")
 }
 
-// One tier is its price alone.
+// A single tier is only its price.
 #[tactic(auto, using(crate::proofs::LongTexts::one_is, crate::proofs::LongTexts::several_is))]
 fn put_tiers(room: &mut [u8], at: usize, tiers: &[Tier]) -> usize
     ensures { Puts room.old at room.new result (tiers_text tiers.now) }
@@ -116,7 +116,7 @@ fn put_each(room: &mut [u8], at: usize, tariffs: &[Tariff]) -> usize
     put(room, at, b"]")
 }
 
-/// Writes tariffs in their order, each with its first month and with what storage and moves cost, by the names of the
+/// Writes tariffs in order, each with its first month and with the prices of storage and moves, by the names of the
 /// classes.
 pub(crate) fn put_tariffs(room: &mut [u8], at: usize, tariffs: &[Tariff]) -> usize
     ensures { Puts room.old at room.new result (body_text (Ok (TariffShown tariffs.now))) }

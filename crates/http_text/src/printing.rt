@@ -65,7 +65,7 @@ fn status(answer: &Result<Reply, Refusal>) -> StatusCode
     }
 }
 
-/// The phrase of a status, or nothing where it has none.
+/// The phrase of a status; empty if it has none.
 fn phrase(status: StatusCode) -> &'static str
     ensures { result.now ≡ unwrap_or (reason_phrase status) [] }
 {
@@ -89,7 +89,7 @@ fn put_head_with(room: &mut [u8], at: usize, media: &str, status: StatusCode, si
     put(room, at, b"\r\n\r\n")
 }
 
-/// Writes the head of a reply with a JSON body of so many bytes, and answers the index after it.
+/// Writes the head of a reply with a JSON body of `size` bytes, and returns the index after it.
 #[tactic(auto, unfolding(crate::specs::Replies::head_text))]
 pub fn put_head(room: &mut [u8], at: usize, status: StatusCode, size: usize) -> usize
     ensures { Puts room.old at room.new result (head_text status size) }
@@ -97,7 +97,7 @@ pub fn put_head(room: &mut [u8], at: usize, status: StatusCode, size: usize) -> 
     put_head_with(room, at, "application/json", status, size)
 }
 
-// Writes a reply whose body is a text that stands already.
+// Writes a reply whose body is a finished text.
 fn put_text_reply(room: &mut [u8], media: &str, body: &[u8]) -> usize
     ensures { Puts room.old 0 room.new result (head_with media.now 200 (length body.now) ++ body.now) }
 {
@@ -105,7 +105,7 @@ fn put_text_reply(room: &mut [u8], media: &str, body: &[u8]) -> usize
     put(room, at, body)
 }
 
-// The bytes of a body.
+// The number of bytes of a body.
 #[tactic(auto, using(crate::proofs::Whole::counted, crate::proofs::Whole::short_in_parts))]
 fn size_of(answer: &Result<Reply, Refusal>) -> usize
     requires fits { AnswerFits answer.now }
@@ -116,8 +116,8 @@ fn size_of(answer: &Result<Reply, Refusal>) -> usize
     put_body(&mut [], 0, answer)
 }
 
-/// Tells whether the reply to an answer always fits 16,384 bytes. These are refusals, replies to commands, and of the
-/// replies to queries what a bucket holds, what it used of at most six classes, and the lifecycle action that is due.
+/// Whether the reply to an answer always fits in 16,384 bytes. This holds for refusals and replies to commands. Of the
+/// replies to queries it holds for a bucket, its meters of at most six classes, and the lifecycle action that is due.
 pub fn is_short(answer: &Result<Reply, Refusal>) -> bool
     ensures short { result ≡ true → IsShort answer.now }
     ensures long { result ≡ false → ¬ (IsShort answer.now) }
@@ -143,8 +143,8 @@ fn is_short_reply(reply: &Reply) -> bool
     }
 }
 
-/// Writes the reply to a short answer at the front of a room, as far as the room goes, and answers how many bytes it
-/// has. Takes no memory; 16,384 bytes of room are always enough.
+/// Writes the reply to a short answer to the front of a room, as far as it fits, and returns the length of the reply in
+/// bytes. Takes no memory; 16,384 bytes of room are always enough.
 #[tactic(auto, using(crate::proofs::Whole::short_in_parts))]
 pub fn put_answer(room: &mut [u8], answer: &Result<Reply, Refusal>) -> usize
     requires fits { AnswerFits answer.now }
@@ -156,7 +156,7 @@ pub fn put_answer(room: &mut [u8], answer: &Result<Reply, Refusal>) -> usize
     put_body(room, at, answer)
 }
 
-// Writes the reply to an answer whose body has so many bytes.
+// Writes the reply to an answer whose body has `size` bytes.
 fn put_sized(room: &mut [u8], answer: &Result<Reply, Refusal>, size: usize) -> usize
     requires fits { AnswerFits answer.now }
     requires in_parts { IsInParts answer.now }
@@ -166,7 +166,7 @@ fn put_sized(room: &mut [u8], answer: &Result<Reply, Refusal>, size: usize) -> u
     put_body(room, at, answer)
 }
 
-// Prints an answer from its parts: they are counted first, and written then.
+// Prints an answer from its parts: first it counts them, then it writes them.
 fn print_parts(alloc: Global, answer: &Result<Reply, Refusal>) -> Result<Vec<u8>, NoMemory>
     requires fits { AnswerFits answer.now }
     requires in_parts { IsInParts answer.now }
@@ -181,7 +181,7 @@ fn print_parts(alloc: Global, answer: &Result<Reply, Refusal>) -> Result<Vec<u8>
     Ok(text)
 }
 
-// Prints a reply whose body is a text that stands already.
+// Prints a reply whose body is a finished text.
 fn print_text(alloc: Global, media: &str, body: &[u8]) -> Result<Vec<u8>, NoMemory>
     ensures text { IfOk result (λ v. v.items ≡ head_with media.now 200 (length body.now) ++ body.now) }
 {
@@ -211,7 +211,7 @@ fn print_report(alloc: Global, lines: &[ReportLine]) -> Result<Vec<u8>, NoMemory
 /// Prints the reply to any answer into memory of exactly its size.
 ///
 /// Cost: two passes over what the answer holds, one to count and one to write. A lifecycle configuration and a report
-/// are printed as texts of their own first, which are copied once and are held beside the reply meanwhile.
+/// are first printed as texts of their own, which are copied once and held beside the reply meanwhile.
 ///
 /// # Errors
 ///

@@ -17,7 +17,7 @@ use moments::Month;
 use office_base::{BucketName, Key};
 use office_types::{Refusal, What};
 
-/// Writes the body of a refusal that tells its name and its number alone.
+/// Writes the body of a refusal that has only its name and its number.
 #[tactic(auto, using(crate::proofs::Small::error_small))]
 pub fn put_error(room: &mut [u8], at: usize, name: &str, number: u64) -> usize
     ensures puts { Puts room.old at room.new result (error_text name.now number) }

@@ -1,10 +1,10 @@
-// Text that is written to the front of a slice, as far as it goes.
+// Text that is written to the front of a slice, as far as it fits.
 ghost use Rattle.std.specs.Prelude.{◌≡◌, ◌<◌, ◌≤◌, ◌^◌, length, decimal};
 ghost use Rattle.std.specs.Char.{digit_char};
 ghost use Rattle.json.specs.Print.{escape_letter, escape_byte, quoted};
 ghost use Rattle.http_text.specs.Room.{Puts};
 
-/// Writes a text at an index, and answers the index after it. Where the room ends, it only counts.
+/// Writes a text at an index, and returns the index after it. At the end of the room it only counts.
 pub fn put(room: &mut [u8], at: usize, text: &[u8]) -> usize
     ensures { Puts room.old at room.new result text.now }
 {
@@ -15,7 +15,7 @@ pub fn put(room: &mut [u8], at: usize, text: &[u8]) -> usize
     end
 }
 
-/// How long the room is.
+/// The length of the room, in bytes.
 pub fn room_len(room: &[u8]) -> usize
     ensures value { result ≡ length room.now }
     ensures short { result < 2 ^ 63 }
@@ -37,7 +37,7 @@ fn hex_digit(n: u8) -> u8
     if n < 10 { b'0' + n } else { b'a' + (n - 10) }
 }
 
-/// The letter after a backslash that stands for a byte, or 0 where there is none.
+/// The letter after a backslash that stands for a byte, or 0 if there is none.
 fn escape_letter(byte: u8) -> u8
     ensures { result ≡ escape_letter byte }
 {

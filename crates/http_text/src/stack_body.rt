@@ -18,7 +18,7 @@ use moments::Moment;
 use office_base::{Key, Size, Tags};
 use stacks::{Kind, Stack, Version};
 
-// Since when a version is noncurrent.
+// Writes the moment since which a version has been noncurrent.
 #[tactic(auto, using(crate::proofs::RoomLemmas::puts_nothing))]
 fn put_since(room: &mut [u8], at: usize, since: Option<Moment>) -> usize
     ensures { Puts room.old at room.new result (since_part since) }
@@ -86,7 +86,7 @@ fn put_next(room: &mut [u8], at: usize, version: &Version) -> usize
     put_version(room, at, version, Some(version.ceased))
 }
 
-// The noncurrent versions behind the current one, and the bracket behind them.
+// Writes the noncurrent versions after the current one, and the closing bracket.
 fn put_noncurrent(room: &mut [u8], at: usize, versions: &[Version]) -> usize
     ensures { Puts room.old at room.new result (items_text true (items_of (map noncurrent_version versions.now))) }
 {

@@ -10,7 +10,7 @@ use crate::members::put_text;
 use crate::room::{put, put_quoted};
 use office_base::Tags;
 
-/// Writes a comma, where something stands before.
+/// Writes a comma, if something comes before.
 #[tactic(auto, using(crate::proofs::RoomLemmas::puts_nothing))]
 pub(crate) fn put_comma(room: &mut [u8], at: usize, later: bool) -> usize
     ensures { Puts room.old at room.new result (comma_if later) }
