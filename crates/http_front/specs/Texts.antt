@@ -30,11 +30,11 @@ use Rattle.http_front.specs.declared.bad.Bad.{Bad}
 use Rattle.http_front.specs.declared.bad.Bad.TheVariants.{Message, Desk}
 use Rattle.http_front.specs.Exchanges.{Exchange, answered, refused}
 
--- a refusal that tells its name and its number alone
+-- the reply to a refusal that has only its name and its number
 abbrev pub error_reply : ℕ → List ℕ → ℕ → List ℕ
 error_reply status name number = reply_with status (error_text name number)
 
--- the text of want of memory
+-- the reply that says that memory ran out
 abbrev pub no_memory_text : List ℕ
 no_memory_text = error_reply 500 (codes "NoMemory") 115
 
@@ -174,17 +174,17 @@ refused_status other = 400
 abbrev pub bad_text : Refused → List ℕ
 bad_text broken = reply_with (refused_status broken) (refused_body broken)
 
--- the same of what is told of a refusal: of no rule where memory ran out, as in no refusal that is heard
+-- the body of the reply to a refusal; None stands for memory that ran out, which is never heard as a refusal
 abbrev pub told_body : Option Refused → List ℕ
 told_body None = error_text (codes "NoMemory") 115
 told_body (Some broken) = refused_body broken
 
--- the status of what is told of a refusal
+-- the status of that reply
 abbrev pub told_status : Option Refused → ℕ
 told_status None = 500
 told_status (Some broken) = refused_status broken
 
--- the text of what is told of a refusal, with that status and that body
+-- the reply to a refusal, with that status and that body
 abbrev pub told_text : Option Refused → List ℕ
 told_text told = reply_with (told_status told) (told_body told)
 
