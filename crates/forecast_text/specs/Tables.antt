@@ -17,7 +17,7 @@ use Rattle.http_text.specs.Names.{action_name, month_text}
 use Rattle.forecast.specs.declared.lines.ForecastLine.{ForecastLine}
 use Rattle.forecast.specs.Forecasts.{Outlook}
 
--- the text of some rows
+-- the text of some rows, in order
 abbrev pub text_of_rows : List (List (List ℕ)) → List ℕ
 text_of_rows rows = flat_map (row_text default_writer) rows
 
@@ -28,17 +28,17 @@ abbrev pub actions_header : List (List ℕ)
 actions_header =
     codes "since" ∷ codes "action" ∷ codes "key" ∷ codes "item" ∷ codes "class" ∷ codes "rule" ∷ []
 
--- what an action is done to: a version as v:null or v:3, an upload as u:1
+-- the target of an action: a version as v:null or v:3, an upload as u:1
 abbrev pub item_text : Target → List ℕ
 item_text (target.Version id) = codes "v:" ++ id_text id
 item_text (target.Upload number) = codes "u:" ++ decimal number
 
--- the class to which an object moves; empty for another action
+-- the class that an object moves to; empty for another action
 abbrev pub class_text : ActionKind → List ℕ
 class_text (Transition to) = class_name to
 class_text kind = []
 
--- an action has a row: the moment at which it stands, what it does, to what, and the id of its rule; no other reply has
+-- the row of an action: its moment, what it does, to what, and the id of its rule; another reply has no row
 abbrev pub action_rows : Reply → List (List (List ℕ))
 action_rows (Chosen kind key target rule since marker) =
     (moment_text since ∷ action_name kind ∷ key ∷ item_text target ∷ class_text kind ∷ rule ∷ []) ∷ []
@@ -54,7 +54,7 @@ actions_csv replies = text_of_rows (actions_header ∷ flat_map action_rows repl
 abbrev pub lines_header : List (List ℕ)
 lines_header = codes "month" ∷ codes "line" ∷ codes "class" ∷ codes "quantity" ∷ codes "charge" ∷ []
 
--- empty where there is no charge
+-- the digits of a charge; empty if there is none
 abbrev pub charge_text : Option ℕ → List ℕ
 charge_text None = []
 charge_text (Some charge) = decimal charge
@@ -68,7 +68,7 @@ line_row month line =
 abbrev pub month_rows : (ℕ → List ForecastLine) → ℕ → List (List (List ℕ))
 month_rows lines month = map (line_row month) (lines month)
 
--- so many months, from this one on
+-- n months in order, beginning with this one
 abbrev pub months_from : ℕ → ℕ → List ℕ
 months_from month zero = []
 months_from month (suc n) = month ∷ months_from (month + 1) n
@@ -80,11 +80,11 @@ lines_csv first last lines =
 
 -- ---- both
 
--- the months of the second table
+-- the months of the second table, first and last inclusive
 pub record MonthSpan : Type 0 where
   pub first : ℕ
   pub last : ℕ
 
--- the actions, an empty line, and the lines of these months
+-- the table of actions, an empty line, and the table of the lines of these months
 unfoldable pub forecast_text : MonthSpan → Outlook → List ℕ
 forecast_text months outlook = actions_csv outlook.replies ++ 10 ∷ lines_csv months.first months.last outlook.lines

@@ -19,7 +19,7 @@ use office_base::{Key, NoMemory, Text};
 use office_types::Reply;
 use std::alloc::Global;
 
-// A row of six texts.
+// Writes a row of six texts.
 fn put_texts<'a>(
     sheet: &mut Sheet,
     since: &'a [u8],
@@ -49,7 +49,7 @@ fn put_header(sheet: &mut Sheet) -> Result<(), NoMemory>
     )
 }
 
-// The row of an action, whatever marker it made.
+// Writes the row of an action, whatever delete marker it made.
 fn put_action(
     sheet: &mut Sheet,
     alloc: Global,
@@ -77,7 +77,7 @@ fn put_action(
     )
 }
 
-// The row of a reply to an act.
+// Writes the row of a reply to an act.
 fn put_reply(sheet: &mut Sheet, alloc: Global, reply: &Reply) -> Result<(), NoMemory>
     requires { IsAtRowStart sheet.old }
     ensures ready { OnOk result (IsAtRowStart sheet.new) }
@@ -118,6 +118,6 @@ pub(crate) fn actions_text(alloc: Global, forecast: &mut Forecast) -> Result<Vec
             None => return finish(sheet),
         }
     }
-    // No office accepts so many acts.
+    // No office accepts this many acts.
     Err(NoMemory)
 }

@@ -11,7 +11,7 @@ use moments::Month;
 use office_base::NoMemory;
 use std::alloc::{AllocError, Global};
 
-// Puts an empty line and a table behind the first one.
+// Adds an empty line and a table to the end of the first one.
 fn put_behind(text: &mut Vec<u8>, table: &[u8]) -> Result<(), AllocError>
     ensures { OnOk result (text.new.items ≡ text.old.items ++ 10 ∷ table.now) }
 {
@@ -33,11 +33,11 @@ fn joined(actions: Vec<u8>, lines: &[u8]) -> Result<Vec<u8>, NoMemory>
 /// from the first to the last would cost.
 ///
 /// The headers are `since,action,key,item,class,rule` and `month,line,class,quantity,charge`. Both tables are CSV (RFC
-/// 4180, but lines end in a line feed). Moments are in UTC; quantities are in byte-milliseconds, those of transitions a
-/// number of objects; charges are in whole units, and empty where no tariff is in force. The first month is not before
-/// that in which the configuration is set.
+/// 4180, but lines end in a line feed). Moments are in UTC. Quantities are in byte-milliseconds; those of transitions
+/// are numbers of objects. Charges are in whole units, and empty if no tariff is in force. The first month is not
+/// before that in which the configuration is set.
 ///
-/// Cost: an act for each action, a reading of six meters for each month, and memory for the text.
+/// Cost: an act for each action, a read of six meters for each month, and memory for the text.
 ///
 /// # Errors
 ///

@@ -14,7 +14,7 @@ use moments::Month;
 use office_base::NoMemory;
 use std::alloc::Global;
 
-// A row of five texts.
+// Writes a row of five texts.
 fn put_texts<'a>(
     sheet: &mut Sheet,
     month: &'a [u8],
@@ -87,7 +87,7 @@ fn put_month(
     put_lines(sheet, month, &lines)
 }
 
-/// Prints the table of what the months from the first to the last would cost: the lines of each, in order.
+/// Prints the table of what the months from the first to the last would cost, with the lines of each month in order.
 ///
 /// # Errors
 ///

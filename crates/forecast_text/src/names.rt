@@ -82,7 +82,7 @@ pub(crate) fn line_name(kind: LineKind) -> &'static str
     }
 }
 
-// A charge as its digits, which stand in the buffer.
+// A charge as its digits, which are in the buffer; empty if there is none.
 pub(crate) fn charge_text(digits: &mut itoa::Buffer, charge: Option<u128>) -> &str
     ensures { result.now ≡ charge_text charge }
 {
@@ -98,7 +98,7 @@ fn two_of(number: u16) -> [u8; 2]
     [b'0' + (number / 10 % 10) as u8, b'0' + (number % 10) as u8]
 }
 
-// As 2024-01.
+// A month as 2024-01.
 #[tactic(auto, unfolding(http_text::specs::Names::month_text))]
 pub(crate) fn month_text(month: Month) -> [u8; 7]
     ensures { result ≡ month_text month }
