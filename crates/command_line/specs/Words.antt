@@ -8,7 +8,7 @@ use Rattle.clap.specs.declared.builder.command.Command.{Command}
 use Rattle.clap.specs.declared.builder.command.Command.TheViews.{out-Command}
 use Rattle.clap.specs.declared.builder.action.ArgAction.TheVariants.{Set, SetTrue}
 
--- an option `--name VALUE` or `--name=VALUE`, and one that must be given
+-- an option `--name VALUE` or `--name=VALUE`
 abbrev pub option : Text → Rule
 option name = record (new_rule name) { long = Some name; action = Some Set }
 
@@ -61,7 +61,7 @@ bill_words = subcommand (codes "bill") (needed_word (codes "month") ∷ [])
 abbrev pub forecast_words : Shape
 forecast_words = subcommand (codes "forecast") (needed_word (codes "bucket") ∷ needed_word (codes "date") ∷ [])
 
--- the command without its subcommands: one must be given, and words ask for no help and for no version
+-- the command without its subcommands: a subcommand is required, and there is no help and no version option
 abbrev pub office_top : App
 office_top = record {
   top = record (new_shape (codes "office")) {
@@ -84,7 +84,7 @@ office_words = record {
 
 -- ---- commands in memory
 
--- a subcommand alone
+-- a subcommand by itself
 abbrev pub alone : Shape → App
 alone shape = record { top = shape; subs = [] }
 
@@ -94,13 +94,13 @@ pub record IsWholeCommand (app : App) (command : Command) : Type 0 where
   pub whole : is_broken command ≡ false
   pub local : (out-Command command).has_globals ≡ false
 
--- it has got one more option
+-- the command has one more option
 abbrev pub GetsOption : Command → Arg → Command → Type 0
 GetsOption command arg now =
     (app : App) (rule : Rule) → IsWholeCommand app command → rule_of arg ≡ rule
     → IsWholeCommand (with_rule app rule) now
 
--- it has got one more subcommand
+-- the command has one more subcommand
 abbrev pub GetsSubcommand : Command → Command → Command → Type 0
 GetsSubcommand command sub now =
     (app below : App) → IsWholeCommand app command → IsWholeCommand below sub

@@ -17,29 +17,29 @@ use std::fmt::{self, Debug, Formatter, Write};
 /// The most workers that serve.
 const MOST_WORKERS: u32 = 64;
 
-/// How many workers serve where none are told. Own rule: a small machine has as many processors.
+/// The number of workers if the words name none. Own rule: a small machine has as many processors.
 const WORKERS: u32 = 4;
 
 /// The most commands of a load. Own rule: a journal keeps as many.
 const MOST_COMMANDS: u64 = 1_000_000;
 
-/// The most connections of a worker, and how many where none are told. Own rule: no worker serves as many in practice.
+/// The most connections of a worker, and the default. Own rule: no worker serves as many in practice.
 const CONNECTIONS: u32 = u32::MAX;
 
 /// What a command line asks for.
 #[derive(Debug, Drop)]
 pub enum CommandLine {
-    /// The journal, made where it is not made: `init`.
+    /// Make the journal, unless it is made: `init`.
     Init,
-    /// The messages of the input, answered: `run`.
+    /// Answer the messages of the input: `run`.
     Run,
-    /// Those of connections, answered: `serve --listen ADDRESS [--workers N] [--connections K]`.
+    /// Answer the messages of connections: `serve --listen ADDRESS [--workers N] [--connections K]`.
     Serve {
-        /// Where to listen, as it was written.
+        /// The address to listen on, as it was written.
         listen: String,
         /// How many workers serve, from 1 to 64.
         workers: u32,
-        /// After how many connections each worker ends, from 1 on.
+        /// After how many connections each worker ends, at least 1.
         connections: u32,
     },
     /// What a month costs: `report MONTH [--text]`.
@@ -49,11 +49,11 @@ pub enum CommandLine {
         /// How many workers make it, from 1 to 64.
         workers: u32,
     },
-    /// A load: `gen NUMBER COUNT`.
+    /// A reproducible load: `gen NUMBER COUNT`.
     Gen {
-        /// What it is generated of.
+        /// The seed from which it is generated.
         number: u64,
-        /// How many commands it has, up to 1,000,000.
+        /// The number of its commands, at most 1,000,000.
         count: u32,
     },
     /// The bills of a closed month, posted: `bill MONTH`.
@@ -66,7 +66,7 @@ pub enum CommandLine {
 #[derive(Debug, Drop)]
 pub struct ReportAsked {
     pub month: Month,
-    /// As a table to read, in place of CSV.
+    /// Whether it is a table to read; otherwise it is CSV.
     pub as_text: bool,
 }
 
@@ -94,10 +94,10 @@ impl Debug for ForecastAsked {
     }
 }
 
-/// Why words are not read.
+/// Why words were not read.
 #[derive(Clone, Copy, Debug, PartialEq, Eq)]
 pub enum LineFault {
-    /// They are no command line.
+    /// They are not a command line.
     NotALine,
     /// Memory ran out.
     NoMemory,
@@ -114,11 +114,11 @@ impl From<AllocError> for LineFault {
     }
 }
 
-/// Reads the words behind the program's name.
+/// Reads the words after the program's name.
 ///
 /// # Errors
 ///
-/// `NotALine`: they ask for nothing. `NoMemory`: memory ran out before that was known.
+/// `NotALine`: they are not a command line. `NoMemory`: memory ran out before that was known.
 pub fn read_line(alloc: Global, words: &[String]) -> Result<CommandLine, LineFault>
     ensures read { IfOk result (λ line. asked (map string_bytes words.now) ≡ Some (line_of line)) }
     ensures refused { IsErrOf result LineFault.NotALine → asked (map string_bytes words.now) ≡ None }
@@ -129,7 +129,7 @@ pub fn read_line(alloc: Global, words: &[String]) -> Result<CommandLine, LineFau
     }
 }
 
-// Why words are not read, where clap did not read them.
+// Why clap did not read the words.
 fn fault(kind: ErrorKind) -> LineFault
     ensures { result ≡ LineFault.NotALine → kind ≢ ErrorKind.OutOfMemory }
 {
@@ -139,7 +139,7 @@ fn fault(kind: ErrorKind) -> LineFault
     LineFault::NotALine
 }
 
-// What words ask for that clap read.
+// What the words that clap read ask for.
 fn command(alloc: Global, matches: &ArgMatches) -> Result<CommandLine, LineFault>
     ensures read { IfOk result (λ line. asked_by matches.now ≡ Some (line_of line)) }
     ensures refused { IsErrOf result LineFault.NotALine → asked_by matches.now ≡ None }
@@ -189,7 +189,7 @@ fn month(text: &str) -> Option<Month>
     read_month(text).ok()
 }
 
-// Whether a flag was given, by what clap keeps of it.
+// Whether a flag was given, judging by what clap keeps for it.
 fn is_set(text: Option<&str>) -> bool
     ensures { result ≡ is_set (option_map (λ t. t.now) text.entry) }
 {
@@ -280,7 +280,7 @@ fn explain(given: &ArgMatches) -> Result<CommandLine, LineFault>
     }
 }
 
-// The number that a word gives, where there is one.
+// The number from 0 to `most` that a word spells, if the word is there.
 fn number_given(text: Option<&str>, most: u64) -> Option<u64>
     ensures exact { result ≡ option_and_then (number_between 0 most) (option_map (λ t. t.now) text.entry) }
     ensures within { IfSome result (λ n. n ≤ most) }

@@ -1,4 +1,4 @@
-// Numbers as they are written in words.
+// Numbers as words spell them.
 ghost use Rattle.std.specs.Prelude.{◌≡◌, ◌≤◌, option_map, IfSome, codes};
 ghost use Rattle.office_base.specs.Versions.{begins_with_number};
 ghost use Rattle.command_line.specs.Lines.{number_between, number_or};
@@ -13,14 +13,14 @@ fn begins_with_digit_above_zero(text: &[u8]) -> bool
     }
 }
 
-// Zero, where it is in a range from this number on.
+// Zero, if it is in the range.
 fn zero_from(least: u64, most: u64) -> Option<u64>
     ensures { result ≡ number_between least most (codes "0") }
 {
     if least == 0 { Some(0) } else { None }
 }
 
-/// Reads a number in a range, in digits without a leading zero.
+/// Reads a number in a range, in decimal digits without a leading zero.
 pub(crate) fn number(text: &str, least: u64, most: u64) -> Option<u64>
     ensures exact { result ≡ number_between least most text.now }
     ensures within { IfSome result (λ n. n ≤ most) }
@@ -38,7 +38,7 @@ pub(crate) fn number(text: &str, least: u64, most: u64) -> Option<u64>
     }
 }
 
-/// Reads the number of an option, from 1 to `most`, or gives the default where the option was not given.
+/// Reads the number of an option, from 1 to `most`; gives the default if the option was not given.
 pub(crate) fn number_of(text: Option<&str>, default: u32, most: u32) -> Option<u32>
     ensures { result ≡ number_or default most (option_map (λ t. t.now) text.entry) }
 {

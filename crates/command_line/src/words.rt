@@ -25,7 +25,7 @@ fn needed_option<'a>(alloc: Global, name: &'a str) -> Arg<'a>
     option(alloc, name).required(true)
 }
 
-// A word that must be given, at its place.
+// A word that must be given, at its position.
 fn needed_word<'a>(alloc: Global, name: &'a str) -> Arg<'a>
     ensures rule { rule_of result ≡ needed_word name.entry.now }
     ensures local { result.global ≡ false }
@@ -122,7 +122,7 @@ fn top<'a>(alloc: Global) -> Command<'a>
         .subcommand_required(true)
 }
 
-/// Gives the words that the office takes.
+/// Builds the command that the office reads.
 pub(crate) fn office<'a>(alloc: Global) -> Result<Command<'a>, AllocError>
     ensures { IfOk result (IsWholeCommand office_words) }
 {
