@@ -11,16 +11,16 @@ use Rattle.desk_core.specs.Damage.{OpenFails}
 use Rattle.office_commands.specs.Running.{Surroundings, IsPutOut, IsRefused}
 
 module _ {D : Type 0} (d : disks.Ghosts D) where
-  -- What was read is the journal file, and the text is the table of stays of its history: also of a disk that tells
-  -- nothing the text is some journal's table, and never made up.
+  -- What was read is the journal file, and the text is the table of stays of its history. On a disk whose state is
+  -- unknown, the text is still the table of some journal.
   pub record ReadsTable (disk : D) (text : List ℕ) : Type 0 where
     pub file : List ℕ
     pub seen : IsTrue d.tells → file ≡ (d.state disk).journal.seen
     pub table : IsTableOf file text
 
 module _ {D C W : Type 0} (d : disks.Ghosts D) (k : clocks.Ghosts C) (w : sinks.Ghosts W) where
-  -- What is said is the table of stays of the journal's history, from which a bill can be checked by hand (own).
-  -- Nothing is written, the disk did not fail, and the clock tells no number.
+  -- The output is the table of stays of the journal's history, from which a bill can be checked by hand (own). Nothing
+  -- is written, the disk did not fail, and the clock is not asked.
   pub record TellsTable (old new : Surroundings D C W) (status : ℕ) : Type 0 where
     pub text : List ℕ
     pub table : ReadsTable d old.disk text
@@ -30,12 +30,12 @@ module _ {D C W : Type 0} (d : disks.Ghosts D) (k : clocks.Ghosts C) (w : sinks.
     pub clock : new.clock ≡ old.clock
     pub told : IsPutOut w text old.out new.out status
 
-  -- The journal could not be read from its first gate on: its bytes tell why.
+  -- The journal could not be read from its first gate on; its bytes show why.
   pub record FailsToRead (old new : Surroundings D C W) (status : ℕ) : Type 0 where
     pub fault : OpenFault
     pub why : IsTrue d.tells → OpenFails fault (d.state old.disk).journal.seen
     pub refused : IsRefused d k w fault old new status
 
-  -- so `explain` does, or the journal is refused
+  -- what `explain` does: it prints the table, or refuses the journal
   abbrev pub Explains : Surroundings D C W → Surroundings D C W → ℕ → Type 0
   Explains old new status = TellsTable old new status ⊎ FailsToRead old new status

@@ -36,7 +36,7 @@ use Rattle.office_commands.specs.Running.{journal_limit, Surroundings, IsNoted, 
 abbrev pub asking : List ℕ → ℕ → ForecastAsked
 asking bucket day = record { bucket = bucket; day = day }
 
--- the bucket that is asked for gets this configuration at the moment, and is swept at the day that is asked for
+-- the bucket gets this configuration at moment t, and is swept until the day
 abbrev pub proposal : ForecastAsked → Configuration → ℕ → Proposal
 proposal asked rules t = record { bucket = asked.bucket; rules = rules; from = t; until = asked.day }
 
@@ -48,20 +48,20 @@ months_of asked = record { first = month_at asked.from; last = month_at asked.un
 abbrev pub IsForetoldExit : ℕ → Type 0
 IsForetoldExit status = (status ≡ 0) ⊎ ((status ≡ 4) ⊎ ((status ≡ 6) ⊎ (status ≡ 14)))
 
--- the office refuses a configuration where there is no such bucket, and where the configurations of all buckets would
--- be too long
+-- the office refuses a configuration if there is no such bucket, or if the configurations of all buckets would be too
+-- long
 abbrev pub MayRefuse : Refusal → Type 0
 MayRefuse NoSuchBucket = Unit {0}
 MayRefuse (Full what limit) = Unit {0}
 MayRefuse other = ⊥
 
--- those have these numbers (own)
+-- the numbers of those refusals (own)
 abbrev pub IsRefusalNumber : Refusal → ℕ → Type 0
 IsRefusalNumber NoSuchBucket number = number ≡ 81
 IsRefusalNumber (Full what limit) number = number ≡ 90
 IsRefusalNumber other number = ⊥
 
--- a forecast is not begun, where the office refuses it for one of those
+-- why a forecast is not begun: the day is past, the office refuses the configuration, or memory ran out
 abbrev pub MayFail : ForecastFault → Type 0
 MayFail (begins.PastDay t) = Unit {0}
 MayFail (begins.Refused refusal) = MayRefuse refusal
@@ -78,26 +78,27 @@ module _ {W : Type 0} (w : sinks.Ghosts W) where
   abbrev pub RefusesRules : Refusal → W → W → ℕ → Type 0
   RefusesRules refusal old new status = (number : ℕ) × IsRefusalNumber refusal number × RefusesForecast number old new status
 
-  -- what is told of a forecast that is not begun
+  -- what is said of a forecast that is not begun
   abbrev pub TellsFailure : ForecastFault → W → W → ℕ → Type 0
   TellsFailure (begins.PastDay t) old new status = RefusesForecast 140 old new status
   TellsFailure (begins.Refused refusal) old new status = RefusesRules refusal old new status
   TellsFailure begins.NoMemory old new status = RunsOut w old new status
 
-  -- What is told of a configuration that the office refuses, and of one that it takes: its forecast is printed.
+  -- What is said of an accepted proposal is its forecast; of a refused one, the number of its refusal.
   abbrev pub TellsAnswer : Proposal → Office → W → W → ℕ → Type 0
   TellsAnswer asked office old new status =
       ((refusal : Refusal) × ((proposed asked office).1 ≡ Err refusal) × RefusesRules refusal old new status)
       ⊎ ((outlook : Outlook) × IsForecast asked office outlook
       × IsPutOut w (forecast_text (months_of asked) outlook) old new status)
 
-  -- What is told of a proposal: a day in the past is refused, whatever the office would answer. Memory may run out.
+  -- What is said of a proposal: a day in the past is refused first, whatever the office would answer. Memory may run
+  -- out.
   abbrev pub TellsProposal : Proposal → Office → W → W → ℕ → Type 0
   TellsProposal asked office old new status =
       ((asked.until < asked.from) × RefusesForecast 140 old new status)
       ⊎ (((asked.from ≤ asked.until) × TellsAnswer asked office old new status) ⊎ RunsOut w old new status)
 
-  -- what is told where the input says no configuration: it is too long, it is none, it failed, or memory ran out
+  -- what is said if the input is too long, is not a configuration, failed, or memory ran out
   abbrev pub TellsFault : ConfigurationFault → W → W → ℕ → Type 0
   TellsFault faults.TooLong old new status = RefusesForecast 124 old new status
   TellsFault (faults.Refused fault) old new status = RefusesForecast (fault_number fault) old new status
@@ -105,19 +106,19 @@ module _ {W : Type 0} (w : sinks.Ghosts W) where
       (status ≡ 3) × IsSilent w old new × IsNoted w old new (end_note ReadFault false)
   TellsFault faults.NoMemory old new status = RunsOut w old new status
 
-  -- what is told of what the input says, as of this moment
+  -- what is said of the contents of the input, as of this moment
   abbrev pub TellsSaid : ForecastAsked → ℕ → Office → Result Configuration ConfigurationFault → W → W → ℕ → Type 0
   TellsSaid asked t office (Ok rules) old new status = TellsProposal (proposal asked rules t) office old new status
   TellsSaid asked t office (Err fault) old new status = TellsFault fault old new status
 
-  -- The forecast of this office, as of the later of the clock's number and the last moment, for what the input says.
+  -- The forecast by this office for the input, as of the later of the clock's first number and the last moment.
   pub record ForecastsBy (office : Office) (asked : ForecastAsked) (input : StreamEnds) (first : ℕ) (old new : W)
       (status : ℕ) : Type 0 where
     pub said : Result Configuration ConfigurationFault
     pub says : SaysRules input said
     pub told : TellsSaid asked (moment_after first office.last) office said old new status
 
-  -- so it is by the office after this history
+  -- the office after this history forecasts so
   pub record ForecastsAfter (history : List Entry) (asked : ForecastAsked) (input : StreamEnds) (first : ℕ) (old new : W)
       (status : ℕ) : Type 0 where
     pub office : Office
@@ -125,9 +126,9 @@ module _ {W : Type 0} (w : sinks.Ghosts W) where
     pub forecasts : ForecastsBy office asked input first old new status
 
 module _ {D C W : Type 0} (d : disks.Ghosts D) (w : sinks.Ghosts W) where
-  -- The office was opened, and what is said is its forecast. On a sound disk that is the office after the history of what
-  -- the journal reads. The history stays: nothing is written, each image is one that there was, the disk did not fail,
-  -- and the clock tells no further number.
+  -- The office was opened, and prints its forecast. On a sound disk it is the office after the history that the
+  -- journal, as read, has. Nothing is written to the journal, each image existed before, the disk did not fail, and the
+  -- clock gives no further number.
   pub record ForecastsBucket (asked : ForecastAsked) (input : StreamEnds) (first : ℕ) (old new : Surroundings D C W)
       (status : ℕ) : Type 0 where
     pub desk : DeskView D C
@@ -143,15 +144,14 @@ module _ {D C W : Type 0} (d : disks.Ghosts D) (w : sinks.Ghosts W) where
         × ForecastsAfter w history asked input first old.out new.out status
 
 module _ {D C W : Type 0} (d : disks.Ghosts D) (k : clocks.Ghosts C) (w : sinks.Ghosts W) where
-  -- what `forecast` does with an input; where the journal is not opened, and where the clock is at its end, the input is
-  -- left alone
+  -- what `forecast` does with an input; if the journal is not opened or the clock is at its end, the input is not read
   abbrev pub Forecasts : Type 0 → ForecastAsked → StreamEnds → Surroundings D C W → Surroundings D C W → ℕ → Type 0
   Forecasts left_alone asked input = Starts d k w left_alone (ForecastsBucket d w asked input)
 
 -- ---- what can be forecast
 
--- The bytes are a configuration, and the office after this history would take it as of the later of the number and its
--- last moment, which is not after the day.
+-- The bytes are a configuration. As of the later of the number and the last moment, the office after this history
+-- accepts it, and the day is not before that moment.
 pub record CanForecast (history : List Entry) (asked : ForecastAsked) (bytes : List ℕ) (told : ℕ) : Type 0 where
   pub office : Office
   pub is_run : run history ≡ Some office

@@ -14,7 +14,7 @@ tally_line counts = line (
     ++ codes " versions " ++ decimal counts.versions ++ codes " uploads " ++ decimal counts.uploads
     ++ codes " journal " ++ decimal counts.journal)
 
--- the line of so many commands that are generated of a number is said, or memory ran out
+-- the line of a load of count commands generated from number is printed, or memory ran out
 abbrev pub TellsLoad : {W : Type 0} → sinks.Ghosts W → ℕ → ℕ → W → W → ℕ → Type 0
 TellsLoad w number count old new status =
     IsPutOut w (tally_line (tally number count)) old new status ⊎ RunsOut w old new status

@@ -15,15 +15,15 @@ use Rattle.http_front.specs.declared.replies.Replies as sinks
 use Rattle.office_commands.specs.Lines.{made_line, fault_exit, fault_note}
 use Rattle.office_commands.specs.Running.{Surroundings, IsNoted, IsPutOut}
 
--- a journal that was not made is made and empty, in each image; one that was made stays as it was read
+-- a journal that was not made is now made and empty in each image; one that was made before reads the same, synced
 abbrev pub IsMadeSo : Made → State → State → Type 0
 IsMadeSo mades.Now old new =
     IsNotMade old.journal.seen × ((image : List ℕ) → IsImage new.journal image → HasAcceptedHistory [] image)
 IsMadeSo mades.Before old new = IsMade old.journal.seen × (new.journal ≡ synced_file old.journal.seen)
 
 module _ {D W : Type 0} (d : disks.Ghosts D) (w : sinks.Ghosts W) where
-  -- it is there, this was put out, and the disk did not fail; one that was made before was not written, and nothing of
-  -- the journal is left to be synced
+  -- The journal is made, the line was printed, and the disk did not fail. One made before is not written. Nothing of
+  -- the journal is left to be synced.
   pub record Makes (old new : D) (out_old out_new : W) (status : ℕ) : Type 0 where
     pub made : Made
     pub is_made : IsTrue d.honest → IsMadeSo made (d.state old) (d.state new)
@@ -32,8 +32,8 @@ module _ {D W : Type 0} (d : disks.Ghosts D) (w : sinks.Ghosts W) where
     pub quiet : d.fault_count new ≡ d.fault_count old
     pub told : IsPutOut w (made_line made) out_old out_new status
 
-  -- it was not made, and nothing was put out; where the disk failed that is told, and nothing else; else nothing was
-  -- written
+  -- The journal is not made, and nothing was printed. A store fault is reported only if the disk failed; with any other
+  -- fault nothing was written.
   pub record FailsToMake (old new : D) (out_old out_new : W) (status : ℕ) : Type 0 where
     pub fault : OpenFault
     pub why : IsTrue d.honest → CreateFails fault (d.state old).journal.seen
@@ -45,8 +45,8 @@ module _ {D W : Type 0} (d : disks.Ghosts D) (w : sinks.Ghosts W) where
     pub status_is : status ≡ fault_exit fault
     pub note : IsNoted w out_old out_new (fault_note fault)
 
-  -- whatever the status: a journal that was made or foreign keeps to its images, and any other is as it was, or not
-  -- made, or made and empty
+  -- in all cases, the images of a journal that was made or foreign stay; any other file is as before, not made, or made
+  -- and empty
   pub record Inits (old new : D) (out_old out_new : W) (status : ℕ) : Type 0 where
     pub ends : Makes old new out_old out_new status ⊎ FailsToMake old new out_old out_new status
     pub unchanged : IsTrue d.honest → (IsNotMade (d.state old).journal.seen → ⊥)
@@ -54,6 +54,6 @@ module _ {D W : Type 0} (d : disks.Ghosts D) (w : sinks.Ghosts W) where
     pub any_moment : IsTrue d.honest → KeepsTo d old new (BeforeOrEmpty (d.state old))
 
 module _ {D C W : Type 0} (d : disks.Ghosts D) (w : sinks.Ghosts W) where
-  -- what `init` does: the clock tells nothing
+  -- what `init` does: the clock is not asked
   abbrev pub InitsAlone : Surroundings D C W → Surroundings D C W → ℕ → Type 0
   InitsAlone old new status = Inits d w old.disk new.disk old.out new.out status × (new.clock ≡ old.clock)

@@ -28,22 +28,22 @@ abbrev pub report_bytes : Bool → List ReportLine → List ℕ
 report_bytes true lines = report_text lines
 report_bytes false lines = report_csv lines
 
--- a reply of the office to that query, or that memory ran out
+-- what the office may reply to that query: a report, no tariff, or out of memory
 abbrev pub IsReportReply : Result Reply Refusal → Type 0
 IsReportReply answered = ((lines : List ReportLine) × (answered ≡ Ok (reply.Report lines)))
     ⊎ ((answered ≡ Err NoTariff) ⊎ (answered ≡ Err NoMemory))
 
 module _ {W : Type 0} (w : sinks.Ghosts W) where
-  -- what is said of the office's reply to the query for the report
+  -- what is printed for the office's reply to the query for the report
   abbrev pub TellsReport : Bool → Result Reply Refusal → W → W → ℕ → Type 0
   TellsReport as_text (Ok (reply.Report lines)) old new status = IsPutOut w (report_bytes as_text lines) old new status
   TellsReport as_text (Err NoTariff) old new status = (status ≡ 10) × IsSilent w old new × IsNoted w old new tariff_note
   TellsReport as_text _ old new status = ⊥
 
 module _ {D C W : Type 0} (d : disks.Ghosts D) (w : sinks.Ghosts W) where
-  -- The office was opened: what is said is its report of the month, as of the later of the clock's first number and the
-  -- last moment; or memory ran out. On a sound disk that is the office after the history of what the journal reads.
-  -- Nothing is written, the disk did not fail, and the clock tells no further number.
+  -- The office was opened, and prints its report of the month, as of the later of the clock's first number and the last
+  -- moment; or memory ran out. On a sound disk it is the office after the history that the journal, as read, has.
+  -- Nothing is written, the disk did not fail, and the clock gives no further number.
   pub record TellsMonth (month : ℕ) (as_text : Bool) (first : ℕ) (old new : Surroundings D C W) (status : ℕ) : Type 0
     where
       pub desk : DeskView D C
@@ -60,6 +60,6 @@ module _ {D C W : Type 0} (d : disks.Ghosts D) (w : sinks.Ghosts W) where
       pub told : TellsReport w as_text reply old.out new.out status ⊎ RunsOut w old.out new.out status
 
 module _ {D C W : Type 0} (d : disks.Ghosts D) (k : clocks.Ghosts C) (w : sinks.Ghosts W) where
-  -- what `report` does; where the journal is not opened, and where the clock is at its end, nothing is said
+  -- what `report` does; if the journal is not opened or the clock is at its end, nothing is printed
   abbrev pub Reports : ℕ → Bool → Surroundings D C W → Surroundings D C W → ℕ → Type 0
   Reports month as_text = Starts d k w (Unit {0}) (TellsMonth d w month as_text)

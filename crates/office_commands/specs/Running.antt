@@ -21,7 +21,7 @@ use Rattle.http_front.specs.declared.answering.SessionEnd.{SessionEnd}
 use Rattle.http_front.specs.declared.answering.SessionEnd.TheVariants.{NoMemory, WriteFault}
 use Rattle.office_commands.specs.Lines.{session_exit, end_after, store_after, fault_exit, clock_note, end_note, fault_note}
 
--- the journal of the program has at most 2^30 bytes
+-- the most bytes of the program's journal: 2^30 (own)
 abbrev pub journal_limit : ℕ
 journal_limit = 1_073_741_824
 
@@ -36,13 +36,12 @@ module _ {D C W : Type 0} where
   abbrev pub around : D → C → W → Surroundings D C W
   around disk clock out = record { disk = disk; clock = clock; out = out }
 
-  -- what stands under an office that is opened there
+  -- the disk and the clock under an office that is opened there
   abbrev pub under : Surroundings D C W → Outside D C
   under s = outside s.disk s.clock
 
 module _ {W : Type 0} (w : sinks.Ghosts W) where
-  -- the line was noted, or it was lost but for a front of it, as the count of faults tells; where it is empty, no call
-  -- was made
+  -- the line was noted, or only a front of it and the count of faults rose; for an empty line no call was made
   abbrev pub IsNoted : W → W → List ℕ → Type 0
   IsNoted old new text =
       (text ≡ [] → new ≡ old) × NotesLine (w.noted old) (w.noted new) text (w.faults old) (w.faults new)
@@ -51,18 +50,18 @@ module _ {W : Type 0} (w : sinks.Ghosts W) where
   abbrev pub SaysNoReply : W → W → Type 0
   SaysNoReply old new = (w.said new ≡ w.said old) × (w.moments new ≡ w.moments old)
 
-  -- nothing was noted, and nothing was lost
+  -- nothing was noted, and no text was lost
   abbrev pub NotesNothing : W → W → Type 0
   NotesNothing old new = (w.noted new ≡ w.noted old) × (w.faults new ≡ w.faults old)
 
-  -- no reply was said, and no other text
+  -- no reply was said, and no other text was printed
   abbrev pub IsSilent : W → W → Type 0
   IsSilent old new = (w.said new ≡ w.said old) × (w.moments new ≡ w.moments old) × (w.texts new ≡ w.texts old)
 
-  -- The line comes behind all that was said: nothing was noted before it, and the count of faults rose before it where
-  -- a text was lost (status 4), and only there.
+  -- The line comes after everything else that was said: nothing was noted before it. The count of faults rose before it
+  -- if and only if a text was lost (status 4).
   pub record EndsWithNote (old new : W) (status : ℕ) (text : List ℕ) : Type 0 where
-    -- the sink in which all was said
+    -- the sink after everything else was said
     pub behind : W
     pub unnoted : w.noted behind ≡ w.noted old
     pub lost : status ≡ 4 → Rose (w.faults old) (w.faults behind)
@@ -71,21 +70,21 @@ module _ {W : Type 0} (w : sinks.Ghosts W) where
     pub note : IsNoted behind new text
 
 module _ {W : Type 0} (w : sinks.Ghosts W) where
-  -- this text was said; or a front of it was, and the rest was lost
+  -- this text was printed; or only a front of it was, and the rest was lost
   abbrev pub IsPutOut : List ℕ → W → W → ℕ → Type 0
   IsPutOut text old new status =
       ((status ≡ 0) × Appends (w.texts old) (w.texts new) text × NotesNothing w old new)
       ⊎ ((status ≡ 4) × ((n : ℕ) × Appends (w.texts old) (w.texts new) (take n text))
       × EndsWithNote w old new status (end_note WriteFault false))
 
-  -- memory ran out: nothing was said
+  -- memory ran out, and nothing was printed
   pub record RunsOut (old new : W) (status : ℕ) : Type 0 where
     pub status_is : status ≡ 6
     pub silent : IsSilent w old new
     pub note : IsNoted w old new (end_note NoMemory false)
 
 module _ {D C W : Type 0} (w : sinks.Ghosts W) where
-  -- Memory ran out before the words were read: disk and clock were not touched, and nothing was said.
+  -- Memory ran out before the words were read: disk and clock are unchanged, and nothing was printed.
   pub record IsUnread (old new : Surroundings D C W) (status : ℕ) : Type 0 where
     pub runs_out : RunsOut w old.out new.out status
     pub untouched : (new.disk ≡ old.disk) × (new.clock ≡ old.clock)
@@ -93,8 +92,8 @@ module _ {D C W : Type 0} (w : sinks.Ghosts W) where
 module _ {D C W : Type 0} (d : disks.Ghosts D) (k : clocks.Ghosts C) (w : sinks.Ghosts W) where
   -- ---- run
 
-  -- The office was opened: the messages of the stream, in order, were asked or refused; the office answered the calls
-  -- that asked them, and what was said are their texts, with the disk's moments of the answers that were said whole.
+  -- The office was opened. The messages of the stream were asked or refused, in order. The office answered the calls
+  -- that asked them, and what was said are their texts, with the disk's moments of the answers said whole.
   pub record AnswersStream (read : StreamEnds) (old new : Surroundings D C W) (status : ℕ) : Type 0 where
     pub end : SessionEnd
     pub talk : Transcript (option_map length read.stream) read end
@@ -104,16 +103,16 @@ module _ {D C W : Type 0} (d : disks.Ghosts D) (k : clocks.Ghosts C) (w : sinks.
     -- at most 2^40 bytes of the input are taken
     pub taken : (n : ℕ) × (n ≤ take_limit) × GaveBytes read.stream read.left n
     pub no_text : w.texts new.out ≡ w.texts old.out
-    -- by the end of the session, and by what closing the office gave
+    -- the exit code follows from the end of the session and from closing the office
     pub status_is : status ≡ session_exit (end_after end answers.calls_are.saved)
         (store_after (stale_by false (calls_of talk.spoken.exchanges)) answers.calls_are.saved)
     pub note : EndsWithNote w old.out new.out status (end_note (end_after end answers.calls_are.saved)
         (store_after (stale_by false (calls_of talk.spoken.exchanges)) answers.calls_are.saved))
 
-  -- ---- both
+  -- ---- run and serve
 
-  -- It ends by this fault: nothing was said, told or written, and each image is one that there was. Where the disk
-  -- failed that is told, and nothing else.
+  -- The command ends with this fault: nothing was said or written, the clock gave no further number, and each image
+  -- existed before. A store fault is reported only if the disk failed.
   pub record IsRefused (fault : OpenFault) (old new : Surroundings D C W) (status : ℕ) : Type 0 where
     pub quiet : (fault ≡ StoreFault → ⊥) → d.fault_count new.disk ≡ d.fault_count old.disk
     pub writes : WritesNothing d old.disk new.disk
@@ -123,13 +122,13 @@ module _ {D C W : Type 0} (d : disks.Ghosts D) (k : clocks.Ghosts C) (w : sinks.
     pub status_is : status ≡ fault_exit fault
     pub note : IsNoted w old.out new.out (fault_note fault)
 
-  -- The office was not opened, and the files as they are read tell why.
+  -- The office was not opened, and the files, as read, show why.
   pub record FailsToOpen (old new : Surroundings D C W) (status : ℕ) : Type 0 where
     pub fault : OpenFault
     pub why : IsTrue d.tells → OpenFailsOn fault (d.state old.disk)
     pub refused : IsRefused fault old new status
 
-  -- The clock is at its end: nothing was said or told, and the disk was not touched.
+  -- The clock is at its end: nothing was said, and the disk was not touched.
   pub record Ends (old new : Surroundings D C W) (status : ℕ) : Type 0 where
     pub status_is : status ≡ 8
     pub untouched : new.disk ≡ old.disk
@@ -137,9 +136,8 @@ module _ {D C W : Type 0} (d : disks.Ghosts D) (k : clocks.Ghosts C) (w : sinks.
     pub silent : IsSilent w old.out new.out
     pub note : IsNoted w old.out new.out clock_note
 
-  -- The clock tells a number before the disk is touched. Where that is below the end of time the office is opened and
-  -- answers, or it is not opened. Where it is not opened, and where the clock is at its end, what the asks come from
-  -- is left alone.
+  -- The clock gives one number before the disk is touched. If it is below the end of time, the office is opened and
+  -- answers, or it is not opened. If it is not opened, or the clock is at its end, the source of the asks is unchanged.
   pub record Starts (left_alone : Type 0) (answers : ℕ → Surroundings D C W → Surroundings D C W → ℕ → Type 0)
       (old new : Surroundings D C W) (status : ℕ) : Type 0 where
     pub first : ℕ
@@ -151,6 +149,6 @@ module _ {D C W : Type 0} (d : disks.Ghosts D) (k : clocks.Ghosts C) (w : sinks.
         ⊎ (FailsToOpen (around old.disk clock old.out) new status × left_alone)))
         ⊎ ((end_of_time ≤ first) × Ends (around old.disk clock old.out) new status × left_alone)
 
-  -- what `run` does with the messages of a stream that it reads, or leaves alone
+  -- what `run` does with the messages of a stream; it reads none if the office is not opened
   abbrev pub Runs : Type 0 → StreamEnds → Surroundings D C W → Surroundings D C W → ℕ → Type 0
   Runs left_alone read = Starts left_alone (λ first. AnswersStream read)

@@ -33,7 +33,7 @@ use moments::Month;
 use office_types::{Query, Refusal, Reply, ReportLine};
 use std::alloc::Global;
 
-// With what is said begins, of bills that were posted now, or before.
+// How the printed line begins, for bills posted before or now.
 fn beginning(before: bool) -> &'static [u8]
     ensures text { result.now ≡ posting_words before }
     ensures short { length result.now ≤ 15 }
@@ -45,7 +45,7 @@ fn beginning(before: bool) -> &'static [u8]
     }
 }
 
-// Writes a number behind the first bytes of the room, and answers where it ends.
+// Writes a number at an index of the room, and returns the index after it.
 fn put_number(room: &mut [u8], at: usize, number: u128) -> usize
     requires { at + 40 ≤ length room.old }
     ensures end { result ≡ at + length (decimal number) }
@@ -57,7 +57,7 @@ fn put_number(room: &mut [u8], at: usize, number: u128) -> usize
     put(room, at, digits)
 }
 
-// Writes what is said of a month that was posted into the room, and answers its length.
+// Writes the line for a posted month into the room, and returns its length.
 #[tactic(auto, unfolding(crate::specs::Billing::receipt_line))]
 fn put_receipt(room: &mut [u8], receipt: &Receipt) -> usize
     requires { 120 ≤ length room.old }
@@ -71,7 +71,7 @@ fn put_receipt(room: &mut [u8], receipt: &Receipt) -> usize
     put(room, end, b"\n")
 }
 
-// Says what was posted, and answers the status. Takes no memory: the line is written into a room of its own.
+// Prints what was posted, and returns the exit code. Takes no memory: the line is written into a room of its own.
 fn say_receipt<W: Replies>(out: &mut W, receipt: &Receipt) -> u8
     ensures told { IsPutOut W.Replies (receipt_line receipt.now) out.old out.new result }
     ensures unsaid { SaysNoReply W.Replies out.old out.new }
@@ -85,7 +85,7 @@ fn say_receipt<W: Replies>(out: &mut W, receipt: &Receipt) -> u8
     say(out, &room[..size])
 }
 
-// Notes why a month was not billed, and answers the status.
+// Notes why a month was not billed, and returns the exit code.
 fn end_billing<W: Replies>(out: &mut W, status: u8, line: &[u8]) -> u8
     ensures ends { EndsBilling W.Replies status line.now out.old out.new result }
     ensures later { W.faults out.old ≤ W.faults out.new }
@@ -94,7 +94,7 @@ fn end_billing<W: Replies>(out: &mut W, status: u8, line: &[u8]) -> u8
     status
 }
 
-// Says what came of posting, and answers the status.
+// Prints the result of posting, and returns the exit code.
 fn say_posting<W: Replies>(out: &mut W, posted: &Result<Receipt, PostFault>) -> u8
     ensures tells { TellsPosting W.Replies posted.now out.old out.new result }
     ensures unsaid { SaysNoReply W.Replies out.old out.new }
@@ -115,7 +115,7 @@ fn say_posting<W: Replies>(out: &mut W, posted: &Result<Receipt, PostFault>) -> 
     }
 }
 
-// Posts the bills of a report's lines, and says what came of it.
+// Posts the bills of a report's lines, and prints the result.
 fn post_lines<W: Replies, K: BillKeeper>(
     alloc: Global,
     out: &mut W,
@@ -140,7 +140,7 @@ fn post_lines<W: Replies, K: BillKeeper>(
     say_posting(out, &posted)
 }
 
-// Posts what the office answered to the query for the report, and says what came of it.
+// Posts the bills of the office's reply to the query for the report, and prints the result.
 fn post_reply<W: Replies, K: BillKeeper>(
     alloc: Global,
     out: &mut W,
@@ -170,8 +170,8 @@ fn post_reply<W: Replies, K: BillKeeper>(
     }
 }
 
-// Bills a month by an open desk, as of a number that its clock told before, and answers the status. The keeper is asked
-// only where the month is closed.
+// Bills a month with an open desk, as of a number that its clock gave before, and returns the exit code. The keeper is
+// asked only if the month is closed.
 fn bill_by<W: Replies, K: BillKeeper, D: Disk + Drop, C: Clock + Drop>(
     alloc: Global,
     out: &mut W,
@@ -200,7 +200,7 @@ fn bill_by<W: Replies, K: BillKeeper, D: Disk + Drop, C: Clock + Drop>(
     post_reply(alloc, out, keeper, month, &reply)
 }
 
-// Bills a month by an open desk, and closes it.
+// Bills a month with an open desk, and closes it.
 fn bill_then_close<W: Replies, K: BillKeeper, D: Disk + Drop, C: Clock + Drop>(
     alloc: Global,
     out: &mut W,
@@ -270,16 +270,16 @@ fn work<W: Replies, K: BillKeeper, D: Disk + Drop, C: Clock + Drop>(
     }
 }
 
-/// Does `bill`: asks the clock once, opens the office where that number is below the end of time, and posts the bills
-/// of a closed month to a keeper.
+/// Does `bill`: asks the clock once, opens the office if that number is below the end of time, and posts the bills of a
+/// closed month to a keeper.
 ///
-/// What was posted is said: `bills N total T`, or `already posted N total T` where the keeper had these bills. The
-/// bills are those of the month's report. Nothing is written to the journal. Where memory ran out (6) the keeper's
-/// book is as before.
+/// It prints what was posted: `bills N total T`, or `already posted N total T` if the keeper had these bills. The bills
+/// are those of the month's report. Nothing is written to the journal. If memory ran out (6), the keeper's book is as
+/// before.
 ///
-/// The status is 8 where the clock is at its end, 11 where the keeper failed, 12 where the month is not closed, and 13
-/// where the keeper has other bills of the month. Where the keeper failed, and where the text was lost (4), the month
-/// may have been posted, whole and with these bills, and may be billed again.
+/// The exit code is 8 if the clock is at its end, 11 if the keeper failed, 12 if the month is not closed, and 13 if the
+/// keeper has other bills of the month. If the keeper failed, or the text was lost (4), the month may have been posted,
+/// whole and with these bills. It may be billed again.
 pub fn bill<W: Replies, K: BillKeeper, D: Disk + Drop, C: Clock + Drop>(
     alloc: Global,
     out: &mut W,

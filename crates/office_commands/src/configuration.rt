@@ -16,12 +16,12 @@ use std::alloc::Global;
 /// The most bytes of a configuration. Own rule: as many as the body of a message has at most.
 const MOST_BYTES: usize = 1_048_576;
 
-/// Why the input says no configuration.
+/// Why the input is not a configuration.
 #[derive(Drop)]
 pub enum ConfigurationFault {
     /// It has more than 1,048,576 bytes.
     TooLong,
-    /// Its bytes are no configuration.
+    /// Its bytes are not a configuration.
     Refused(RulesFault),
     /// A read failed.
     ReadFault,
@@ -29,7 +29,7 @@ pub enum ConfigurationFault {
     NoMemory,
 }
 
-// Reads on, puts what was read behind the bytes that are there, and answers how many bytes it is. 0 is the end.
+// Reads on, appends what was read to the bytes, and returns its length. 0 is the end.
 fn read_on<S: Source>(input: &mut S, bytes: &mut Vec<u8>) -> Result<usize, ConfigurationFault>
     ensures took { IfOk result (λ count. (given : List ℕ) × (length given ≡ count)
         × (bytes.new.items ≡ bytes.old.items ++ given) × Consumes (S.left input.old) (S.left input.new) given) }
@@ -66,7 +66,7 @@ fn read_whole<S: Source>(alloc: Global, input: &mut S) -> Result<Vec<u8>, Config
     Err(ConfigurationFault::TooLong)
 }
 
-// The rules that bytes say.
+// The rules that the bytes spell.
 fn rules_in(alloc: Global, bytes: &[u8]) -> Result<RuleSet, ConfigurationFault>
     ensures read { IfOk result (λ rules. rules_of bytes.now ≡ Ok rules) }
     ensures refused { (fault : RulesFault) → result ≡ Err (ConfigurationFault.Refused fault)
@@ -87,8 +87,8 @@ fn rules_in(alloc: Global, bytes: &[u8]) -> Result<RuleSet, ConfigurationFault>
 ///
 /// # Errors
 ///
-/// `TooLong`: there are more bytes; at most 1,024 more are read. `Refused`: they are no configuration. `ReadFault`: a
-/// read failed. `NoMemory`: memory ran out.
+/// `TooLong`: there are more bytes; at most 1,024 more are read. `Refused`: they are not a configuration. `ReadFault`:
+/// a read failed. `NoMemory`: memory ran out.
 pub(crate) fn read_configuration<S: Source>(
     alloc: Global,
     input: &mut S,
@@ -124,7 +124,7 @@ fn flaw_number(flaw: RuleFlaw) -> u64
     }
 }
 
-/// Gives the number of a fault, as replies tell it. Takes no memory.
+/// Gives the number of a fault, as in replies. Takes no memory.
 pub(crate) fn fault_number(fault: &RulesFault) -> u64
     ensures { result ≡ fault_number fault.now }
 {

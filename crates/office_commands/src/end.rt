@@ -1,9 +1,9 @@
 // How a command ends.
 
-/// How a command of the program ended, with what was handed in.
+/// How a command of the program ended, with the disk and the clock that it was given.
 #[derive(Drop)]
 pub struct End<D, C> {
-    /// The exit status.
+    /// The exit code.
     pub status: u8,
     pub disk: D,
     pub clock: C,

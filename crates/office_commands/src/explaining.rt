@@ -21,7 +21,7 @@ use stay_explain::explain;
 use std::alloc::Global;
 use std::thread::Threads;
 
-// Reads the journal, and gives the table of its stays.
+// Reads the journal, and returns the table of its stays.
 fn table<D: Disk, R: Threads + Sync>(
     rt: &R,
     alloc: Global,
@@ -40,9 +40,9 @@ fn table<D: Disk, R: Threads + Sync>(
     }
 }
 
-/// Does `explain`: reads the journal, and says the table of its stays, worked by up to so many threads.
+/// Does `explain`: reads the journal, and prints the table of its stays, made by up to this many threads.
 ///
-/// The table is the same for every number of them. Nothing is written, and the clock is not asked.
+/// The table is the same for any number of threads. Nothing is written, and the clock is not asked.
 pub fn stays<W: Replies, D: Disk + Drop, C: Clock + Drop, R: Threads + Sync>(
     rt: &R,
     alloc: Global,

@@ -1,4 +1,4 @@
-// Foretelling what a configuration would do to a bucket, and charge.
+// Forecasting what a configuration would do to a bucket, and what it would cost.
 ghost use Rattle.std.specs.Prelude.{◌≡◌, ◌≤◌, ◌⊎◌, ◌<◌, ◌^◌, max, false, IsTrue};
 ghost use Rattle.moments.specs.Months.{month_at};
 ghost use Rattle.moments.specs.Time.{end_of_time};
@@ -44,7 +44,7 @@ const PAST_DAY: u64 = 140;
 /// The number of a configuration that is too long, as of the body of a message. Own rule.
 const TOO_LONG: u64 = 124;
 
-// Notes why there is no forecast, and answers the status.
+// Notes why there is no forecast, and returns the exit code.
 fn refuse_forecast<W: Replies>(out: &mut W, number: u64) -> u8
     ensures refuses { RefusesForecast W.Replies number out.old out.new result }
     ensures later { W.faults out.old ≤ W.faults out.new }
@@ -53,7 +53,7 @@ fn refuse_forecast<W: Replies>(out: &mut W, number: u64) -> u8
     REFUSED
 }
 
-// Notes that the input failed, and answers the status.
+// Notes that the input failed, and returns the exit code.
 fn end_at_input<W: Replies>(out: &mut W) -> u8
     ensures tells { TellsFault W.Replies ConfigurationFault.ReadFault out.old out.new result }
     ensures status { result ≡ 3 }
@@ -63,7 +63,7 @@ fn end_at_input<W: Replies>(out: &mut W) -> u8
     INPUT
 }
 
-// Tells that the input says no configuration, and answers the status.
+// Notes why the input is not a configuration, and returns the exit code.
 fn refuse_input<W: Replies>(out: &mut W, fault: &ConfigurationFault) -> u8
     ensures tells { TellsFault W.Replies fault.now out.old out.new result }
     ensures unsaid { SaysNoReply W.Replies out.old out.new }
@@ -92,7 +92,7 @@ fn refusal_number(refusal: &Refusal) -> u64
     }
 }
 
-// Tells why a forecast is not begun, and answers the status.
+// Notes why a forecast is not begun, and returns the exit code.
 fn refuse_proposal<W: Replies>(out: &mut W, fault: &ForecastFault) -> u8
     requires { MayFail fault.now }
     ensures tells { TellsFailure W.Replies fault.now out.old out.new result }
@@ -124,7 +124,7 @@ fn moment_for(told: Moment, last: Option<Moment>) -> Moment
     }
 }
 
-// Prints a forecast of the months from that of a moment to that of another, and answers the status.
+// Prints a forecast with the months from one moment to another, and returns the exit code.
 fn say_forecast<W: Replies>(
     alloc: Global,
     out: &mut W,
@@ -149,7 +149,7 @@ fn say_forecast<W: Replies>(
     }
 }
 
-// Tells what an office would do with a configuration, and answers the status.
+// Prints what an office would do with a configuration, and returns the exit code.
 fn propose<W: Replies>(
     alloc: Global,
     out: &mut W,
@@ -175,8 +175,8 @@ fn propose<W: Replies>(
     }
 }
 
-// Reads the input, tells the forecast of an open desk as of a number that its clock told before, and answers the
-// status.
+// Reads the input, prints the forecast of an open desk as of a number that its clock gave before, and returns the exit
+// code.
 fn foretell_by<S: Source, W: Replies, D: Disk + Drop, C: Clock + Drop>(
     alloc: Global,
     input: &mut S,
@@ -208,7 +208,7 @@ fn foretell_by<S: Source, W: Replies, D: Disk + Drop, C: Clock + Drop>(
     }
 }
 
-// Tells the forecast of an open desk, and closes it.
+// Prints the forecast of an open desk, and closes it.
 fn foretell_then_close<S: Source, W: Replies, D: Disk + Drop, C: Clock + Drop>(
     alloc: Global,
     input: &mut S,
@@ -241,7 +241,7 @@ fn foretell_then_close<S: Source, W: Replies, D: Disk + Drop, C: Clock + Drop>(
     }
 }
 
-// Opens the office, and tells the forecast.
+// Opens the office, and prints the forecast.
 fn work<S: Source, W: Replies, D: Disk + Drop, C: Clock + Drop>(
     alloc: Global,
     input: &mut S,
@@ -274,15 +274,16 @@ fn work<S: Source, W: Replies, D: Disk + Drop, C: Clock + Drop>(
     }
 }
 
-/// Does `forecast`: asks the clock once, opens the office where that number is below the end of time, reads a lifecycle
-/// configuration from the input, and prints what it would do to a bucket by a day, and what that would cost.
+/// Does `forecast`: asks the clock once, opens the office if that number is below the end of time, and reads a
+/// lifecycle configuration from the input. It prints what the configuration would do to a bucket by a day, and what
+/// that would cost.
 ///
-/// The forecast is as of that number, or of the last accepted command, where that is later. Nothing is written to the
-/// journal, and the input is read only where the office was opened.
+/// The forecast is as of that number, or of the last accepted command if that is later. Nothing is written to the
+/// journal, and the input is read only if the office was opened.
 ///
-/// The status is 8 where the clock is at its end, 3 where a read of the input failed, and 14 where there is no forecast:
-/// the input has more than 1,048,576 bytes, or says no configuration, the day is before the moment of the forecast, or
-/// the office refuses the configuration.
+/// The exit code is 8 if the clock is at its end, 3 if a read of the input failed, and 14 if there is no forecast.
+/// There is none if the input has more than 1,048,576 bytes or is not a configuration, the day is before the moment of
+/// the forecast, or the office refuses the configuration.
 pub fn foretell<S: Source, W: Replies, D: Disk + Drop, C: Clock + Drop>(
     alloc: Global,
     input: &mut S,

@@ -1,4 +1,4 @@
-// The statuses of commands and the lines that they print.
+// The exit codes of commands and the lines that they print.
 ghost use Rattle.std.specs.Prelude.{false, ◌≡◌, ◌+◌, ◌≤◌, ◌++◌, length, take};
 ghost use Rattle.http_front.specs.declared.answering.SessionEnd.TheVariants.{NoMemory};
 ghost use Rattle.meter_journal.specs.declared.fault.OpenFault.TheVariants.{Damaged};
@@ -11,40 +11,40 @@ use http_front::{Replies, SessionEnd};
 use meter_journal::{Made, OpenFault};
 use std::io::ErrorKind;
 
-/// The status of words that are no command line.
+/// The exit code of words that are not a command line.
 pub const USAGE: u8 = 1;
 
-/// The status where memory ran out.
+/// The exit code if memory ran out.
 pub const MEMORY: u8 = 6;
 
-/// The status where a text could not be said.
+/// The exit code if a text could not be written.
 pub(crate) const OUTPUT: u8 = 4;
 
-/// The status of a report where no tariff is set.
+/// The exit code of a report without a tariff.
 pub(crate) const NO_TARIFF: u8 = 10;
 
-/// The status where the keeper of bills failed.
+/// The exit code if the keeper of bills failed.
 pub(crate) const KEEPER: u8 = 11;
 
-/// The status of a month that is to be billed and is not closed.
+/// The exit code of billing a month that is not closed.
 pub(crate) const MONTH_OPEN: u8 = 12;
 
-/// The status where the month has other bills.
+/// The exit code if other bills of the month are kept.
 pub(crate) const OTHER_BILLS: u8 = 13;
 
-/// The status where there is no forecast for what was proposed.
+/// The exit code if there is no forecast for a proposal.
 pub(crate) const REFUSED: u8 = 14;
 
-/// The status where the input failed.
+/// The exit code if the input failed.
 pub(crate) const INPUT: u8 = 3;
 
-/// The status where the clock is at its end.
+/// The exit code if the clock is at its end.
 pub(crate) const CLOCK_END: u8 = 8;
 
-/// The status where the disk did not do a call.
+/// The exit code if a call of the disk failed.
 pub const STORE: u8 = 2;
 
-// The status of a run whose session ended so, with a desk that is stale then or not.
+// The exit code of a run whose session ended so, with a desk that is then stale or not.
 pub(crate) fn run_exit(end: SessionEnd, stale: bool) -> u8
     ensures { result ≡ session_exit end stale }
 {
@@ -79,7 +79,7 @@ pub(crate) fn made_text(made: Made) -> &'static [u8]
     }
 }
 
-/// Gives the line that is noted of words that are no command line. Takes no memory.
+/// Gives the note on words that are not a command line. Takes no memory.
 #[tactic(auto, unfolding(crate::specs::Lines::usage_note))]
 pub fn usage() -> &'static [u8]
     ensures { result.now ≡ usage_note }
@@ -123,8 +123,8 @@ pub(crate) fn keeper_line() -> &'static [u8]
     b"bills: failed\n"
 }
 
-/// Gives the line that is noted of a session that ended so, with a desk that is stale then or not; it is empty where
-/// all was done. Takes no memory.
+/// Gives the note on a session that ended so, with a desk that is then stale or not; it is empty if all was done. Takes
+/// no memory.
 #[tactic(auto, unfolding(crate::specs::Lines::end_note))]
 pub fn end_line(end: SessionEnd, stale: bool) -> &'static [u8]
     ensures { result.now ≡ end_note end stale }
@@ -142,7 +142,7 @@ pub fn end_line(end: SessionEnd, stale: bool) -> &'static [u8]
     }
 }
 
-/// Notes a line, or nothing where it is empty. Takes no memory.
+/// Notes a line, or nothing if it is empty. Takes no memory.
 pub fn note_line<W: Replies>(out: &mut W, line: &[u8])
     ensures silent { IsSilent W.Replies out.old out.new }
     ensures noted { IsNoted W.Replies out.old out.new line.now }
@@ -155,7 +155,7 @@ pub fn note_line<W: Replies>(out: &mut W, line: &[u8])
 
 const DAMAGED: &[u8] = b"journal: damaged at ";
 
-// Writes a text behind the first bytes of the room, and answers where it ends.
+// Writes a text at an index of the room, and returns the index after it.
 pub(crate) fn put(room: &mut [u8], at: usize, text: &[u8]) -> usize
     requires { at + length text.now ≤ length room.old }
     ensures end { result ≡ at + length text.now }
@@ -166,7 +166,7 @@ pub(crate) fn put(room: &mut [u8], at: usize, text: &[u8]) -> usize
     end
 }
 
-// Writes the line of a damaged journal into the room, and answers its length.
+// Writes the line of a damaged journal into the room, and returns its length.
 #[tactic(auto, unfolding(crate::specs::Lines::fault_note))]
 fn put_damage(room: &mut [u8], offset: u64) -> usize
     requires { 48 ≤ length room.old }
@@ -180,7 +180,7 @@ fn put_damage(room: &mut [u8], offset: u64) -> usize
     put(room, end, b"\n")
 }
 
-// Writes the line of a forecast that is refused into the room, and answers its length.
+// Writes the line of a refused forecast into the room, and returns its length.
 #[tactic(auto, unfolding(crate::specs::Lines::refused_note))]
 fn put_refused(room: &mut [u8], number: u64) -> usize
     requires { 48 ≤ length room.old }
@@ -231,8 +231,8 @@ pub(crate) fn note_fault<W: Replies>(out: &mut W, fault: OpenFault)
     }
 }
 
-/// Notes why there are no words, and answers the status: 6 where memory ran out (`kind` is `OutOfMemory`), and else
-/// 1, since one of them is not UTF-8.
+/// Notes why there are no words, and returns the exit code: 6 if memory ran out (`kind` is `OutOfMemory`), otherwise 1,
+/// because one of them is not UTF-8.
 pub fn refuse_words<W: Replies>(out: &mut W, kind: ErrorKind) -> u8
     ensures memory { kind ≡ ErrorKind.OutOfMemory → (result ≡ session_exit NoMemory false)
         × IsNoted W.Replies out.old out.new (end_note NoMemory false) }

@@ -1,4 +1,4 @@
-// Printing what comes of a generated load.
+// Printing the counts of a generated load.
 ghost use Rattle.std.specs.Prelude.{◌≡◌, ◌≤◌, ◌⊎◌, ◌++◌, IfOk, OnOk, decimal};
 ghost use Rattle.office_base.specs.Faults.{Rose};
 ghost use Rattle.office_commands.specs.Loading.{tally_line, TellsLoad};
@@ -9,7 +9,7 @@ use generator::{Tally, generate};
 use http_front::Replies;
 use std::alloc::{AllocError, Global};
 
-// Puts a count behind its name.
+// Writes a count after its name.
 fn put(line: &mut Vec<u8>, name: &[u8], count: u64) -> Result<(), AllocError>
     ensures { OnOk result (line.new.items ≡ line.old.items ++ name.now ++ decimal count) }
 {
@@ -33,8 +33,8 @@ fn line_of(alloc: Global, tally: &Tally) -> Result<Vec<u8>, AllocError>
     Ok(line)
 }
 
-/// Does `gen`: makes so many commands that are generated of a number, on a disk in memory, says their counts, and
-/// answers the status, which is 6 where memory ran out.
+/// Does `gen`: generates this many commands from a number, runs them on a disk in memory, and prints their counts. It
+/// returns the exit code, which is 6 if memory ran out.
 pub fn load<W: Replies>(alloc: Global, out: &mut W, number: u64, count: u32) -> u8
     ensures tells { TellsLoad W.Replies number count out.old out.new result }
     ensures unsaid { SaysNoReply W.Replies out.old out.new }

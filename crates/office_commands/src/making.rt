@@ -12,9 +12,9 @@ use disk_core::Disk;
 use http_front::Replies;
 use meter_journal::create;
 
-/// Does `init`: makes the journal where it is not made, says whether it was, and answers the status.
+/// Does `init`: makes the journal unless it is made, prints which of the two it was, and returns the exit code.
 ///
-/// Takes no memory. Where it was not made, or the text was lost, a line is noted.
+/// Takes no memory. If the journal could not be made, or the text was lost, it notes a line.
 pub fn init<W: Replies, D: Disk>(out: &mut W, disk: &mut D) -> u8
     ensures inits { Inits D.Disk W.Replies disk.old disk.new out.old out.new result }
     ensures unsaid { SaysNoReply W.Replies out.old out.new }

@@ -38,7 +38,7 @@ fn print(alloc: Global, lines: &[ReportLine], as_text: bool) -> Result<Vec<u8>, 
     }
 }
 
-// Notes that there is no tariff, and answers the status.
+// Notes that there is no tariff, and returns the exit code.
 fn refuse_report<W: Replies>(out: &mut W) -> u8
     ensures told { (result ≡ 10) × IsSilent W.Replies out.old out.new
         × IsNoted W.Replies out.old out.new tariff_note }
@@ -48,7 +48,7 @@ fn refuse_report<W: Replies>(out: &mut W) -> u8
     NO_TARIFF
 }
 
-// Says the lines of a report, and answers the status.
+// Prints the lines of a report, and returns the exit code.
 fn say_lines<W: Replies>(alloc: Global, out: &mut W, lines: &[ReportLine], as_text: bool) -> u8
     requires fits { charges lines.now < 2 ^ 128 }
     ensures tells { TellsReport W.Replies as_text (Ok (report_of.Report lines.now)) out.old out.new result
@@ -65,7 +65,7 @@ fn say_lines<W: Replies>(alloc: Global, out: &mut W, lines: &[ReportLine], as_te
     }
 }
 
-// Says what the office answered, and answers the status.
+// Prints the office's reply, and returns the exit code.
 fn say_reply<W: Replies>(
     alloc: Global,
     out: &mut W,
@@ -93,7 +93,7 @@ fn say_reply<W: Replies>(
     }
 }
 
-// Says the report of an open desk, as of a number that its clock told before.
+// Prints the report of an open desk, as of a number that its clock gave before.
 fn say_report<W: Replies, D: Disk + Drop, C: Clock + Drop>(
     alloc: Global,
     out: &mut W,
@@ -130,7 +130,7 @@ fn say_report<W: Replies, D: Disk + Drop, C: Clock + Drop>(
     }
 }
 
-// Opens the office, and says the report.
+// Opens the office, and prints the report.
 fn work<W: Replies, D: Disk + Drop, C: Clock + Drop>(
     alloc: Global,
     out: &mut W,
@@ -161,10 +161,10 @@ fn work<W: Replies, D: Disk + Drop, C: Clock + Drop>(
     }
 }
 
-/// Does `report`: asks the clock once, and says what the month costs where that number is below the end of time.
+/// Does `report`: asks the clock once, and prints what the month costs if that number is below the end of time.
 ///
-/// The report is as of that number, in milliseconds, or of the last accepted command, where that is later. Nothing is
-/// written to the journal. The status is 8 where the clock is at its end, and 10 where no tariff is set.
+/// The report is as of that number, in milliseconds, or of the last accepted command if that is later. Nothing is
+/// written to the journal. The exit code is 8 if the clock is at its end, and 10 if no tariff is set.
 pub fn report<W: Replies, D: Disk + Drop, C: Clock + Drop>(
     alloc: Global,
     out: &mut W,

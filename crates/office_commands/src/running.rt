@@ -23,7 +23,7 @@ use meter_journal::OpenFault;
 use moments::Moment;
 use std::alloc::Global;
 
-/// Tells whether the store failed: the desk is stale at its end, or the disk failed while its checkpoint was saved.
+/// Whether the store failed: the desk is stale at its end, or the disk failed while its checkpoint was saved.
 pub fn store_failed(stale: bool, saved: &Result<(), SaveFault>) -> bool
     ensures { result ≡ store_after stale saved.now }
 {
@@ -33,7 +33,7 @@ pub fn store_failed(stale: bool, saved: &Result<(), SaveFault>) -> bool
     }
 }
 
-// How the session ended, once its office was closed.
+// How a session ended, after its office was closed.
 fn ended(end: SessionEnd, saved: &Result<(), SaveFault>) -> SessionEnd
     ensures { result ≡ end_after end saved.now }
 {
@@ -83,7 +83,7 @@ fn answer<S: Source, W: Replies, D: Disk + Drop, C: Clock + Drop>(
     }
 }
 
-/// Notes why the office was not opened, and ends with the status of that. Takes no memory.
+/// Notes why the office was not opened, and ends with the exit code for it. Takes no memory.
 pub fn refuse<W: Replies, D: Disk + Drop, C: Clock + Drop>(
     out: &mut W,
     fault: OpenFault,
@@ -138,7 +138,7 @@ fn work<S: Source, W: Replies, D: Disk + Drop, C: Clock + Drop>(
     }
 }
 
-// The next number of the clock, where it is below the end of time.
+// The next number of the clock, if it is below the end of time.
 pub(crate) fn first_moment<C: Clock>(clock: &mut C) -> Option<Moment>
     ensures once { C.count clock.new ≡ min (C.count clock.old + 1) (2 ^ 64 - 1) }
     ensures told { C.count clock.new < 2 ^ 64 - 1
@@ -149,7 +149,7 @@ pub(crate) fn first_moment<C: Clock>(clock: &mut C) -> Option<Moment>
     Moment::of(clock.now()).ok()
 }
 
-/// Asks the clock once, and answers whether its number is below the end of time. Takes no memory.
+/// Asks the clock once, and returns whether its number is below the end of time. Takes no memory.
 pub fn has_begun<C: Clock>(clock: &mut C) -> bool
     ensures once { C.count clock.new ≡ min (C.count clock.old + 1) (2 ^ 64 - 1) }
     ensures told { C.count clock.new < 2 ^ 64 - 1
@@ -160,7 +160,7 @@ pub fn has_begun<C: Clock>(clock: &mut C) -> bool
     first_moment(clock).is_some()
 }
 
-/// Notes that the clock is at its end, and ends with status 8. Takes no memory.
+/// Notes that the clock is at its end, and ends with exit code 8. Takes no memory.
 pub fn end_at_clock<W: Replies, D: Disk + Drop, C: Clock + Drop>(
     out: &mut W,
     disk: D,
@@ -178,10 +178,10 @@ pub fn end_at_clock<W: Replies, D: Disk + Drop, C: Clock + Drop>(
     }
 }
 
-/// Does `run`: asks the clock once, opens the office over the journal where that number is below the end of time,
-/// answers the messages of the input in order, each once its effect is durable, and closes the office.
+/// Does `run`: asks the clock once, and opens the office over the journal if that number is below the end of time. It
+/// answers the messages of the input in order, each after its effect is durable, and closes the office.
 ///
-/// The input is read only where the office was opened; a line on a fault goes to the notes.
+/// The input is read only if the office was opened; a line on a fault goes to the notes.
 pub fn run<S: Source, W: Replies, D: Disk + Drop, C: Clock + Drop>(
     alloc: Global,
     input: &mut S,

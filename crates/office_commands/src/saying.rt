@@ -1,4 +1,4 @@
-// Saying what a command prints.
+// Printing the text of a command.
 ghost use Rattle.std.specs.Prelude.{◌≡◌, ◌≤◌, ◌⊎◌};
 ghost use Rattle.office_base.specs.Faults.{Rose};
 ghost use Rattle.office_commands.specs.Running.{IsPutOut, RunsOut, SaysNoReply, NotesNothing};
@@ -6,7 +6,7 @@ ghost use Rattle.office_commands.specs.Running.{IsPutOut, RunsOut, SaysNoReply, 
 use crate::lines::{MEMORY, OUTPUT, end_line, note_line};
 use http_front::{Replies, SessionEnd};
 
-// Says a text, and answers the status.
+// Prints a text, and returns the exit code.
 pub(crate) fn say<W: Replies>(out: &mut W, text: &[u8]) -> u8
     ensures told { IsPutOut W.Replies text.now out.old out.new result }
     ensures unsaid { SaysNoReply W.Replies out.old out.new }
@@ -24,7 +24,7 @@ pub(crate) fn say<W: Replies>(out: &mut W, text: &[u8]) -> u8
     }
 }
 
-// Notes that memory ran out, and answers the status.
+// Notes that memory ran out, and returns the exit code.
 pub(crate) fn run_out<W: Replies>(out: &mut W) -> u8
     ensures told { RunsOut W.Replies out.old out.new result }
     ensures status { result ≡ 6 }
