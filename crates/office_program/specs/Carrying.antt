@@ -19,7 +19,7 @@ use Rattle.office_commands.specs.Reporting.{Reports}
 use Rattle.office_commands.specs.Running.{Surroundings, around, Runs}
 use Rattle.office_program.specs.Commands.{FaultCounts, faults, NoneFailed, NoBillingFailed, NoForecastingFailed, IsDone}
 
--- it is no `serve`, and the workers of an `explain` are as many as a command line may ask for
+-- it is not `serve`, and the workers of an `explain` are in range
 abbrev pub NeedsNoPort : Line → Type 0
 NeedsNoPort init = Unit {0}
 NeedsNoPort run = Unit {0}
@@ -47,15 +47,15 @@ module _ {S D C W K : Type 0} where
 
 module _ {S D C W K : Type 0} (s : sources.Ghosts S) (d : disks.Ghosts D) (k : clocks.Ghosts C) (w : sinks.Ghosts W)
     (b : keepers.Ghosts K) where
-  -- what the input told before, and what is left of it
+  -- the input before, and what is left of it
   abbrev pub input_ends : Setting S D C W K → Setting S D C W K → StreamEnds
   input_ends old new = stream_ends (s.left old.input) (s.left new.input)
 
-  -- how often each has failed so far; a port that is not there never has
+  -- how often each has failed so far; there is no port, so its count is 0
   abbrev pub counts : Setting S D C W K → FaultCounts
   counts at = faults (d.fault_count at.place.disk) (s.faults at.input) (w.faults at.place.out) 0 (b.faults at.keeper)
 
-  -- what each word does
+  -- what each command line does
   abbrev pub CarriesOut : Line → Setting S D C W K → Setting S D C W K → ℕ → Type 0
   CarriesOut init old new status = InitsAlone d w old.place new.place status
   CarriesOut run old new status =
@@ -68,16 +68,16 @@ module _ {S D C W K : Type 0} (s : sources.Ghosts S) (d : disks.Ghosts D) (k : c
   CarriesOut (forecast bucket day) old new status = Forecasts d k w (new.input ≡ old.input) (asking bucket day)
       (input_ends old new) old.place new.place status
 
-  -- it is done, where nothing outside fails and the clock is not at its end: on a sound disk, or for init on one whose
-  -- journal is not foreign
+  -- it is done if nothing outside fails and the clock is not at its end; the disk is sound, or the line is `init` and
+  -- the journal is not foreign
   abbrev pub MustBeDone : Line → Setting S D C W K → Setting S D C W K → ℕ → Type 0
   MustBeDone line old new status = IsTrue d.honest
       → IsSound (d.state old.place.disk)
       ⊎ ((line ≡ init) × (IsForeign (d.state old.place.disk).journal.seen → ⊥))
       → NoneFailed (counts old) (counts new) → (status ≡ 8 → ⊥) → IsDone (Some line) status
 
-  -- a closed month is billed on a sound disk, where nothing that a billing works on fails, the clock is not at its end,
-  -- and the keeper has no bills of it, or these
+  -- on a sound disk a closed month is billed if nothing that billing uses fails, the clock is not at its end, and the
+  -- keeper has no bills of the month or just these; only memory may run out
   abbrev pub MustBill : Line → Setting S D C W K → Setting S D C W K → ℕ → Type 0
   MustBill line old new status = (month : ℕ) (history : List Entry) → line ≡ bill month
       → IsTrue d.honest → IsSound (d.state old.place.disk)
@@ -85,8 +85,8 @@ module _ {S D C W K : Type 0} (s : sources.Ghosts S) (d : disks.Ghosts D) (k : c
       → CanBill b history (billed month old new) → NoBillingFailed (counts old) (counts new)
       → (status ≡ 8 → ⊥) → (status ≡ 0) ⊎ (status ≡ 6)
 
-  -- what can be forecast is, on a sound disk, where nothing that a forecast works on fails and the clock is not at its
-  -- end
+  -- on a sound disk, what can be forecast is forecast if nothing that a forecast uses fails and the clock is not at its
+  -- end; only memory may run out
   abbrev pub MustForecast : Line → Setting S D C W K → Setting S D C W K → ℕ → Type 0
   MustForecast line old new status = (bucket : List ℕ) (day : ℕ) (history : List Entry) (bytes : List ℕ)
       → line ≡ forecast bucket day → IsTrue d.honest → IsSound (d.state old.place.disk)

@@ -1,4 +1,4 @@
--- What the program does with the words behind its name, whatever they ask for.
+-- What the program does with the words after its name, whatever they ask for.
 use Rattle.std.specs.Prelude.{◌≡◌, ◌⊎◌, ◌≤◌, ℕ, Bool, String, List, Option, Some, None, map, string_bytes}
 use Rattle.office_base.specs.Faults.{Rose}
 use Rattle.command_line.specs.Lines.{Line, asked, init, run, serve, report, bill, forecast}
@@ -7,27 +7,27 @@ use Rattle.office_commands.specs.Lines.{usage_note, IsReportExit, IsBillExit, Is
 use Rattle.office_program.specs.Workers.{IsServeExit}
 use Rattle.office_commands.specs.Running.{Surroundings, IsNoted, IsSilent, SaysNoReply, NotesNothing, IsUnread}
 
--- the command line that these words are, where they are one
+-- the command line that these words are, if they are one
 abbrev pub asks : {A : Type 0} → List (String A) → Option Line
 asks words = asked (map string_bytes words)
 
--- it asks for service
+-- the line asks for service
 abbrev pub IsServe : Option Line → Type 0
 IsServe line = (listen : List ℕ) × (workers : ℕ) × (connections : ℕ) × (line ≡ Some (serve listen workers connections))
 
--- it asks for a report
+-- the line asks for a report
 abbrev pub IsReport : Option Line → Type 0
 IsReport line = (month : ℕ) × (as_text : Bool) × (line ≡ Some (report month as_text))
 
--- it asks for the bills of a month
+-- the line asks for the bills of a month
 abbrev pub IsBill : Option Line → Type 0
 IsBill line = (month : ℕ) × (line ≡ Some (bill month))
 
--- it asks for a forecast
+-- the line asks for a forecast
 abbrev pub IsForecastLine : Option Line → Type 0
 IsForecastLine line = (bucket : List ℕ) × (day : ℕ) × (line ≡ Some (forecast bucket day))
 
--- it reads the input: as messages, or as a configuration
+-- the line reads the input, as messages or as a configuration
 abbrev pub ReadsInput : Option Line → Type 0
 ReadsInput line = (line ≡ Some run) ⊎ IsForecastLine line
 
@@ -39,7 +39,7 @@ module _ {D C W : Type 0} (w : sinks.Ghosts W) where
       → Surroundings D C W → Surroundings D C W → ℕ → Type 0
   Obeys left_alone does old new status = does old new status ⊎ (IsUnread w old new status × left_alone)
 
-  -- words that are no command line touch nothing
+  -- words that are not a command line change neither disk nor clock, and print nothing but a note
   pub record RefusesWords (old new : Surroundings D C W) (status : ℕ) : Type 0 where
     pub status_is : status ≡ 1
     pub untouched : (new.disk ≡ old.disk) × (new.clock ≡ old.clock)
@@ -49,16 +49,16 @@ module _ {D C W : Type 0} (w : sinks.Ghosts W) where
 -- ---- what is touched
 
 module _ {W : Type 0} (w : sinks.Ghosts W) where
-  -- Each command line touches only what is its own.
+  -- Each command line touches only its own part of the surroundings.
   pub record TouchesOwn (line : Option Line) (input_stays port_stays keeper_stays : Type 0) (old new : W) (status : ℕ)
       : Type 0 where
-    -- replies are said by a run alone, and other texts by no run and no server
+    -- only a run says replies; neither a run nor a server prints other texts
     pub unsaid : (line ≡ Some run → ⊥) → SaysNoReply w old new
     pub no_text : (line ≡ Some run) ⊎ IsServe line → w.texts new ≡ w.texts old
-    -- nothing is noted where all was done, and nothing was lost
+    -- if all was done, nothing is noted and no text is lost
     pub unnoted : status ≡ 0 → NotesNothing w old new
-    -- the input is read by a run and a forecast alone, the port used by a server alone, the keeper of bills asked by a
-    -- billing alone, and none of them where the journal was not opened
+    -- only a run and a forecast read the input, only a server uses the port, and only billing asks the keeper of bills;
+    -- none of them does if the journal was not opened
     pub unread : (ReadsInput line → ⊥) → input_stays
     pub unused : (IsServe line → ⊥) → port_stays
     pub unbilled : (IsBill line → ⊥) → keeper_stays
@@ -66,7 +66,7 @@ module _ {W : Type 0} (w : sinks.Ghosts W) where
 
 -- ---- causes
 
--- how often each of what the program stands on has failed so far
+-- how often each outside part of the program has failed so far
 pub record FaultCounts : Type 0 where
   pub disk : ℕ
   pub input : ℕ
@@ -79,27 +79,28 @@ abbrev pub faults : ℕ → ℕ → ℕ → ℕ → ℕ → FaultCounts
 faults disk input output port keeper =
     record { disk = disk; input = input; output = output; port = port; keeper = keeper }
 
--- neither the disk, nor the input, the output and the port failed meanwhile
+-- the disk, the input, the output and the port did not fail meanwhile
 abbrev pub NoneFailed : FaultCounts → FaultCounts → Type 0
 NoneFailed old new =
     (Rose old.disk new.disk → ⊥) × (Rose old.input new.input → ⊥) × (Rose old.output new.output → ⊥)
     × (Rose old.port new.port → ⊥)
 
--- neither the disk, nor the output and the keeper of bills failed meanwhile
+-- the disk, the output and the keeper of bills did not fail meanwhile
 abbrev pub NoBillingFailed : FaultCounts → FaultCounts → Type 0
 NoBillingFailed old new =
     (Rose old.disk new.disk → ⊥) × (Rose old.output new.output → ⊥) × (Rose old.keeper new.keeper → ⊥)
 
--- neither the disk, nor the input and the output failed meanwhile
+-- the disk, the input and the output did not fail meanwhile
 abbrev pub NoForecastingFailed : FaultCounts → FaultCounts → Type 0
 NoForecastingFailed old new =
     (Rose old.disk new.disk → ⊥) × (Rose old.input new.input → ⊥) × (Rose old.output new.output → ⊥)
 
--- Each status has its cause. The input and the port did not fail where another status is told, and the keeper of bills
--- did not where all was done. Why a month is refused, since it is not closed (12) or has other bills (13), is part of
--- what `bill` does (`BillsOffice`, `TellsPosting`), and why there is no forecast (14) part of what `forecast` does
--- (`TellsSaid`). The bytes of a journal that is not opened tell why (`OpenFails`, by `FailsToOpen`); `init` refuses a
--- foreign one alone.
+-- Each status has its cause. With another status than 3 the input did not fail, with another than 7 the port did not,
+-- and with status 0 the keeper of bills did not. Why a month is not billed, because it is not closed (12) or has other
+-- bills (13), is part of what `bill` does (`BillsOffice`, `TellsPosting`). Why there is no forecast (14) is part of
+-- what `forecast` does (`TellsSaid`). Why a journal is not opened is shown by the files (`OpenFailsOn`, through
+-- `FailsToOpen`), or by the bytes of the journal alone for `explain` (`OpenFails`, through `FailsToRead`). `init`
+-- refuses only a foreign one.
 pub record IsCaused (line : Option Line) (old new : FaultCounts) (foreign spent : Type 0) (status : ℕ) : Type 0 where
   pub known : (status ≡ 1) ⊎ ((status ≡ 8) ⊎ (IsReportExit status ⊎ (IsServeExit status ⊎ (IsBillExit status
       ⊎ IsForecastExit status))))
@@ -120,8 +121,8 @@ pub record IsCaused (line : Option Line) (old new : FaultCounts) (foreign spent 
   pub input_only : status ≡ 3 → ReadsInput line
   pub forecast_only : status ≡ 14 → IsForecastLine line
 
--- the command line was done, but for want of memory, too long an input, a report without a tariff, a month that is not
--- billed, since the keeper failed, the month is not closed, or it has other bills, and a forecast that is refused
+-- the command line was done. This includes out of memory, too long an input, a report without a tariff, a refused
+-- forecast, and a month that is not billed because the keeper failed, the month is not closed, or it has other bills.
 abbrev pub IsDone : Option Line → ℕ → Type 0
 IsDone line status = IsDoneExit status ⊎ ((IsBill line × ((status ≡ 11) ⊎ ((status ≡ 12) ⊎ (status ≡ 13))))
     ⊎ (IsForecastLine line × (status ≡ 14)))

@@ -21,8 +21,8 @@ use office_commands::{End, bill, foretell, init, load, report, run, stays};
 use std::alloc::Global;
 use std::thread::Threads;
 
-// States of a disk each of whose images has a history that what it reads has one, and that it has such images as
-// long as it is left alone. It does nothing.
+// States that on a sound disk what is read has a history, and that the disk stays sound while nobody writes. It does
+// nothing. A disk is sound if whatever a crash leaves of its three files has one history.
 pub(crate) fn sound_now<D: Disk>(disk: &D)
     ensures reads { IsTrue D.honest → IsSound (D.state disk.now) → (history : List Entry)
         × HasAcceptedHistory history (D.state disk.now).journal.seen }
@@ -32,8 +32,8 @@ pub(crate) fn sound_now<D: Disk>(disk: &D)
 
 /// Does one command of the program that needs no port: any but `serve`.
 ///
-/// What each does, and which status it has, is said at `office`. It has no handle to wait forever, so each command
-/// comes to its end, if the calls that it makes of the disk, the clock, the input, the output and the keeper do.
+/// What each command does, and its exit codes, is said at `office`. There is no handle on which it could wait forever.
+/// So each command ends if its calls of the disk, the clock, the input, the output and the keeper do.
 pub fn carry_out<S, W, D, C, K, R>(
     rt: &R,
     alloc: Global,
@@ -53,16 +53,16 @@ where
     R: Threads + Sync,
     requires no_port { NeedsNoPort (line_of command.now) }
 
-    // What each word does.
+    // What each command line does.
     ensures does { CarriesOut S.Source D.Disk C.Clock W.Replies K.BillKeeper (line_of command.now)
         (setting disk clock out.old input.old keeper.old)
         (setting result.disk result.clock out.new input.new keeper.new) result.status }
 
-    // Each touches only what is its own.
+    // Each command line touches only its own part.
     ensures only { TouchesOwn W.Replies (Some (line_of command.now)) (input.new ≡ input.old) (Unit {0})
         (keeper.new ≡ keeper.old) out.old out.new result.status }
 
-    // Each status has its cause, and none is a port.
+    // Each status has its cause, and the cause is never a port.
     ensures causes { IsCaused (Some (line_of command.now))
         (counts S.Source D.Disk C.Clock W.Replies K.BillKeeper (setting disk clock out.old input.old keeper.old))
         (counts S.Source D.Disk C.Clock W.Replies K.BillKeeper
@@ -70,11 +70,11 @@ where
         (IsTrue D.honest → IsForeign (D.state disk).journal.seen)
         (GaveBytes (S.left input.old) (S.left input.new) take_limit) result.status }
 
-    // A disk each of whose images has a history is opened, and has such images at every moment.
+    // A sound disk is opened, and stays sound at every moment.
     ensures sound { IsTrue D.honest → IsSound (D.state disk)
         → (result.status ≡ 5 → ⊥) × KeepsTo D.Disk disk result.disk IsSound }
 
-    // A command is done, where nothing outside fails; so is a billing, and a forecast, of what can be.
+    // If nothing outside fails, a command is done. So is a billing that can be made, and a forecast that can be made.
     ensures complete { MustBeDone S.Source D.Disk C.Clock W.Replies K.BillKeeper (line_of command.now)
         (setting disk clock out.old input.old keeper.old)
         (setting result.disk result.clock out.new input.new keeper.new) result.status }

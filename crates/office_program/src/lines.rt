@@ -1,11 +1,11 @@
-// The statuses of a command that serves, and the lines that it notes.
+// The exit codes of `serve`, and the lines that it notes.
 ghost use Rattle.std.specs.Prelude.{◌≡◌};
 ghost use Rattle.office_program.specs.Workers.{workers_exit, workers_note};
 
 use office_commands::{MEMORY, STORE};
 use serving::WorkerEnd;
 
-// The status of workers that ended so, with a desk that is stale then or not.
+// The exit code of workers that ended so, with a desk that is then stale or not.
 pub(crate) fn serve_exit(end: WorkerEnd, stale: bool) -> u8
     ensures { result ≡ workers_exit end stale }
 {

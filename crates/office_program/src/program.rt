@@ -36,7 +36,7 @@ use std::alloc::Global;
 use std::sync::Wait;
 use std::thread::Threads;
 
-// Notes that words are no command line, or that memory ran out before they were read, and answers the status.
+// Notes that words are not a command line, or that memory ran out before they were read, and returns the exit code.
 fn refuse_line<W: Replies>(out: &mut W, fault: LineFault) -> u8
     ensures usage { fault ≡ LineFault.NotALine → (result ≡ 1) × IsNoted W.Replies out.old out.new usage_note }
     ensures memory { fault ≡ LineFault.NoMemory → (result ≡ 6)
@@ -57,34 +57,55 @@ fn refuse_line<W: Replies>(out: &mut W, fault: LineFault) -> u8
 }
 
 /// Does one command of the program: `init`, `run`, `serve`, `report`, `explain`, `gen`, `bill` or `forecast`. The words
-/// are those behind the program's name.
+/// are those after the program's name.
 ///
-/// `init` makes the journal where it is not made, and says whether it was. `run` asks the clock once, opens the
-/// office over the journal, answers the messages of the input in order, each once its effect is durable, and closes
-/// the office. `serve` does the same with the messages of connections: it asks the clock once, opens the office,
-/// listens, has workers answer the connections side by side, each up to so many of them, and closes the office.
-/// `report` asks the clock once, opens the office, and prints what a month costs, as of that number or of the last
-/// accepted command, where that is later; it writes nothing to the journal. `explain` reads the journal and prints
-/// every stay of it, from which a bill can be checked by hand. `gen` makes commands that are generated of a number,
-/// on a disk in memory, and prints how many were accepted. `bill` asks the clock once, opens the office, posts the
-/// bills of a closed month's report to the keeper, and prints how many they are and what they come to; where the keeper
-/// has these bills already, nothing is posted. `forecast` asks the clock once, opens the office, reads a lifecycle
-/// configuration from the input, and prints what it would do to a bucket by a day, and what that would cost, as of that
-/// number or of the last accepted command, where that is later; it writes nothing to the journal. A line on a fault goes
-/// to the notes.
+/// `init` makes the journal unless it is made, and prints which of the two it was.
 ///
-/// The status is 0 where all was done; 1 where the words are no command line; 2 where the disk did not do a call,
-/// at `init` or at the opening, or in a call since which no other ask was answered; 3 where the input could not be
-/// read; 4 where a text could not be said; 5 where the journal is not made, foreign or damaged; 6 where memory ran
-/// out; 7 where the port did not listen or gave no connection; 8 where the first number that the clock told a
-/// `run`, a `serve`, a `report`, a `bill` or a `forecast` is not below the end of time, 4,102,444,800,000 milliseconds,
-/// and then nothing else was done; 9 where 2^40 bytes of input were taken and more is needed; 10 where a report has no
-/// tariff; 11 where the keeper of bills failed; 12 where the month to be billed is not closed; 13 where the keeper has
-/// other bills of the month; 14 where there is no forecast, since the input has more than 1,048,576 bytes or is no
-/// configuration, the day is before the moment of the forecast, or the office refuses the configuration. After 11, and
-/// after 4 of a `bill`, the month may have been posted, whole and with these bills, and may be billed again. A
-/// connection that fails, or in whose session memory runs out, ends alone and gives no status. Where several hold, the
-/// status is the first of 1, 8, 5, 4, 3, 9, 7, 2, 6, 10, 12, 11, 13, 14.
+/// `run` asks the clock once, opens the office over the journal, answers the messages of the input in order, each after
+/// its effect is durable, and closes the office.
+///
+/// `serve` does the same with the messages of connections: it asks the clock once, opens the office, and listens.
+/// Workers answer the connections side by side, each worker up to its number of connections. Then it closes the office.
+///
+/// `report` asks the clock once, opens the office, and prints what a month costs. It is as of that number, or of the
+/// last accepted command if that is later.
+///
+/// `explain` reads the journal and prints every stay in it, from which a bill can be checked by hand.
+///
+/// `gen` generates commands from a number, runs them on a disk in memory, and prints how many were accepted.
+///
+/// `bill` asks the clock once, opens the office, posts the bills of a closed month's report to the keeper, and prints
+/// their number and their total. If the keeper has these bills already, nothing is posted.
+///
+/// `forecast` asks the clock once, opens the office, and reads a lifecycle configuration from the input. It prints what
+/// the configuration would do to a bucket by a day, and what that would cost. It is as of that number, or of the last
+/// accepted command if that is later.
+///
+/// `report`, `explain`, `bill` and `forecast` write nothing to the journal. A line on a fault goes to the notes.
+///
+/// The exit code is
+///
+/// - 0 if all was done;
+/// - 1 if the words are not a command line;
+/// - 2 if the disk failed in a call of `init` or of the opening, or in a call after which no other ask was answered;
+/// - 3 if the input could not be read;
+/// - 4 if a text could not be written;
+/// - 5 if the journal is not made, foreign or damaged;
+/// - 6 if memory ran out;
+/// - 7 if the port did not listen or gave no connection;
+/// - 8 if the first number that the clock gave a `run`, a `serve`, a `report`, a `bill` or a `forecast` is not below
+/// the end of time, 4,102,444,800,000 milliseconds; nothing else was done then;
+/// - 9 if 2^40 bytes of input were taken and more is needed;
+/// - 10 if a report has no tariff;
+/// - 11 if the keeper of bills failed;
+/// - 12 if the month to be billed is not closed;
+/// - 13 if the keeper has other bills of the month;
+/// - 14 if there is no forecast: the input has more than 1,048,576 bytes or is not a configuration, the day is before
+/// the moment of the forecast, or the office refuses the configuration.
+///
+/// If several hold, it is the first of 1, 8, 5, 4, 3, 9, 7, 2, 6, 10, 12, 11, 13, 14. After 11, and after 4 of a
+/// `bill`, the month may have been posted, whole and with these bills. It may be billed again. A connection that fails,
+/// or in whose session memory runs out, ends by itself and gives no exit code.
 pub fn office<S, W, D, C, P, G, K, R>(
     rt: &R,
     alloc: Global,
@@ -109,7 +130,7 @@ where
     K: BillKeeper,
     R: Threads + Wait + Sync,
 
-    // What each word does, where memory suffices to read the words.
+    // What each command does, if memory suffices to read the words.
     ensures run { asks words.now ≡ Some run_line → Obeys W.Replies (input.new ≡ input.old)
         (Runs D.Disk C.Clock W.Replies (input.new ≡ input.old) (stream_ends (S.left input.old) (S.left input.new)))
         (around disk clock out.old) (around result.disk result.clock out.new) result.status }
@@ -141,8 +162,8 @@ where
     ensures other { asks words.now ≡ None → Obeys W.Replies (Unit {0}) (RefusesWords W.Replies)
         (around disk clock out.old) (around result.disk result.clock out.new) result.status }
 
-    // Each touches only what is its own, and each connection that the port gave was given back, ended, whatever the
-    // status.
+    // Each command touches only its own part. Whatever the exit code, each connection that the port gave was given
+    // back, ended.
     ensures only { TouchesOwn W.Replies (asks words.now) (input.new ≡ input.old) (port.new ≡ port.old)
         (keeper.new ≡ keeper.old) out.old out.new result.status }
     ensures balanced { IsBalanced P.Port port.old port.new }
@@ -156,12 +177,13 @@ where
         (IsTrue D.honest → IsForeign (D.state disk).journal.seen)
         (GaveBytes (S.left input.old) (S.left input.new) take_limit) result.status }
 
-    // A disk each of whose images has a history is opened, and has such images at every moment.
+    // A sound disk is opened, and stays sound at every moment. It is sound if whatever a crash leaves of its three
+    // files has one history.
     ensures sound { IsTrue D.honest → IsSound (D.state disk)
         → (result.status ≡ 5 → ⊥) × KeepsTo D.Disk disk result.disk IsSound }
 
-    // A command line is done, on such a disk or for init on one that is not foreign, where nothing outside fails
-    // and the clock is not at its end.
+    // A command line is done if nothing outside fails and the clock is not at its end. The disk must be sound, or for
+    // `init`, its journal must not be foreign.
     ensures complete { IsTrue D.honest → IsSome (asks words.now)
         → IsSound (D.state disk)
         ⊎ ((asks words.now ≡ Some init_line) × (IsForeign (D.state disk).journal.seen → ⊥))
@@ -171,8 +193,8 @@ where
         (K.faults keeper.new))
         → (result.status ≡ 8 → ⊥) → IsDone (asks words.now) result.status }
 
-    // On a sound disk a closed month is billed where nothing that a billing works on fails, the clock is not at its
-    // end, and the keeper has no bills of it, or these.
+    // On a sound disk a closed month is billed if nothing that billing uses fails, the clock is not at its end, and the
+    // keeper has no bills of the month or just these. Only memory may run out.
     ensures billable { (month : ℕ) (history : List Entry) → asks words.now ≡ Some (bill_line month)
         → IsTrue D.honest → IsSound (D.state disk) → HasAcceptedHistory history (D.state disk).journal.seen
         → CanBill K.BillKeeper history (billing month keeper.old keeper.new)
@@ -182,9 +204,9 @@ where
         (K.faults keeper.new))
         → (result.status ≡ 8 → ⊥) → (result.status ≡ 0) ⊎ (result.status ≡ 6) }
 
-    // On a sound disk what can be forecast is, where nothing that a forecast works on fails and the clock is not at its
-    // end: the input tells its bytes, which are a configuration, and the office takes it as of the number that the clock
-    // told.
+    // On a sound disk, what can be forecast is forecast if nothing that a forecast uses fails and the clock is not at
+    // its end. The input's bytes must be known and be a configuration, and the office must accept it as of the clock's
+    // number. Only memory may run out.
     ensures forecastable { (bucket : List ℕ) (day : ℕ) (history : List Entry) (bytes : List ℕ)
         → asks words.now ≡ Some (forecast_line bucket day)
         → IsTrue D.honest → IsSound (D.state disk) → HasAcceptedHistory history (D.state disk).journal.seen

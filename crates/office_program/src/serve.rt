@@ -22,7 +22,7 @@ use std::alloc::Global;
 use std::sync::Wait;
 use std::thread::Threads;
 
-// How workers ended, once their office was closed.
+// How workers ended, after their office was closed.
 fn ended(end: WorkerEnd, saved: &Result<(), SaveFault>) -> WorkerEnd
     ensures { result ≡ workers_after end saved.now }
 {
@@ -35,7 +35,7 @@ fn ended(end: WorkerEnd, saved: &Result<(), SaveFault>) -> WorkerEnd
     }
 }
 
-// Notes how workers ended.
+// Notes how workers ended, and ends with the exit code for it.
 fn close<W: Replies, D: Disk + Drop, C: Clock + Drop>(
     out: &mut W,
     closed: Closed<D, C>,
@@ -60,7 +60,7 @@ fn close<W: Replies, D: Disk + Drop, C: Clock + Drop>(
     }
 }
 
-// Has workers serve an open desk.
+// Lets workers serve an open desk.
 fn answer<W, D, C, P, G, R>(
     rt: &R,
     alloc: Global,
@@ -100,7 +100,7 @@ where
     close(out, closed)
 }
 
-// Opens the office, and has workers serve it.
+// Opens the office, and lets workers serve it.
 fn work<W, D, C, P, G, R>(
     rt: &R,
     alloc: Global,
@@ -155,7 +155,7 @@ where
     }
 }
 
-// Asks the clock once, and has workers serve where it is below the end of time.
+// Asks the clock once, and lets workers serve if its number is below the end of time.
 pub(crate) fn serve<W, D, C, P, G, R>(
     rt: &R,
     alloc: Global,
