@@ -1,4 +1,4 @@
-//! An office that keeps the records of an object store in a journal.
+//! An office that meters object storage and keeps its records in a journal.
 #![tactic(auto)]
 
 use bill_keeper::SqliteKeeper;
@@ -16,7 +16,7 @@ use std::io::{self, ErrorKind};
 use std::process::ExitCode;
 use std::rt::{Env, Files};
 
-/// The folder of the program's files, in the folder where it is started.
+/// The folder of the program's files, inside the folder in which the program is started.
 const FOLDER: &str = "office-data";
 
 fn open_file<R: Files>(rt: &R, path: &str) -> io::Result<R::File> {
@@ -25,7 +25,7 @@ fn open_file<R: Files>(rt: &R, path: &str) -> io::Result<R::File> {
     options.open(rt, path)
 }
 
-// A file that the disk can do without: there is none where it cannot be opened.
+// A file that the disk can do without. There is none if it cannot be opened.
 fn open_spare<R: Files>(rt: &R, path: &str) -> io::Result<Option<R::File>> {
     match open_file(rt, path) {
         Ok(file) => Ok(Some(file)),
@@ -34,23 +34,23 @@ fn open_spare<R: Files>(rt: &R, path: &str) -> io::Result<Option<R::File>> {
     }
 }
 
-// Makes the names of the files and of their folder durable, so that a file which was made is found after a loss of
+// Makes the names of the files and of their folder durable, so that a file that was made is still found after a loss of
 // power.
 fn sync_names<R: Files<File = File>>(rt: &R) -> io::Result<()> {
     File::open(rt, FOLDER)?.sync_all()?;
     File::open(rt, ".")?.sync_all()
 }
 
-// The journal's file, with the lock on it. The lock is that of the open file, so it ends where the file is closed or
-// the process ends. There is none where the file cannot be opened, or another process holds the lock.
+// The journal's file, locked. The lock belongs to the open file, so it ends when the file is closed or the process
+// ends. There is none if the file cannot be opened, or another process holds the lock.
 fn open_journal<R: Files<File = File>>(rt: &R) -> io::Result<File> {
     let file = open_file(rt, "office-data/journal")?;
     file.try_lock()?;
     Ok(file)
 }
 
-// The files of the folder, which is made where it is not there. There are none where the folder cannot be made, the
-// journal cannot be opened, or their names cannot be made durable.
+// The files of the folder, which is made if it is missing. There are none if the folder cannot be made, the journal
+// cannot be opened, or the names cannot be made durable.
 fn open_files<R: Files<File = File>>(rt: &R) -> io::Result<FileDisk<File>> {
     fs::create_dir_all(rt, FOLDER)?;
     let journal = open_journal(rt)?;
@@ -69,8 +69,8 @@ fn asks_for_files<R: Alloc<A = Global>>(rt: &R, words: &[String]) -> io::Result<
     }
 }
 
-// The disk of a command. It has no files where the words ask for none, a file might get the number of a standard
-// stream, or the files cannot be opened.
+// The disk of a command. It has no files if the words need none, if a file might get the number of a standard stream,
+// or if the files cannot be opened.
 //
 // # Errors
 //
@@ -89,9 +89,8 @@ fn open_disk<R: Files<File = File> + Alloc<A = Global>>(
     }
 }
 
-// Takes the number of a standard stream that is closed, so that no file of the disk gets it and a reply is not written
-// there.
-// What is opened is only read, so that a reply to it fails; the folder is there also where no device is.
+// Takes the number of a standard stream that is closed, so that no file of the disk gets it and no reply is written to
+// such a file. It opens `/dev/null`, or `/` if that cannot be opened, only to read, so that a write of a reply fails.
 fn hold_number<R: Files>(rt: &R) -> Option<R::File> {
     match File::open(rt, "/dev/null") {
         Ok(file) => Some(file),
@@ -99,12 +98,12 @@ fn hold_number<R: Files>(rt: &R) -> Option<R::File> {
     }
 }
 
-// Takes the numbers of all standard streams that are closed, or none of them.
+// Takes the numbers of all closed standard streams, or none of them.
 fn hold_numbers<R: Files>(rt: &R) -> Option<[R::File; 3]> {
     Some([hold_number(rt)?, hold_number(rt)?, hold_number(rt)?])
 }
 
-// The words behind the program's name.
+// The words after the program's name.
 fn words_of<R: Env + Alloc<A = Global>>(rt: &R) -> io::Result<Vec<String>> {
     let mut words: Vec<String> = env::args(rt)?.collect(rt.alloc())?;
     if !words.is_empty() {
@@ -113,7 +112,7 @@ fn words_of<R: Env + Alloc<A = Global>>(rt: &R) -> io::Result<Vec<String>> {
     Ok(words)
 }
 
-// What the keeper of bills needs, which opens its file at its first call.
+// What the keeper of bills needs. The keeper opens its file at its first call.
 //
 // # Errors
 //
