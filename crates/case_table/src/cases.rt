@@ -6,7 +6,7 @@ use std::alloc::Global;
 use toml::Value;
 use toml_datetime::{Datetime, Offset};
 
-/// What a document has.
+/// The contents of a document.
 #[derive(Drop, Deserialize)]
 #[serde(deny_unknown_fields)]
 pub struct Document {
@@ -18,12 +18,13 @@ pub struct Document {
 #[serde(deny_unknown_fields)]
 pub struct Case {
     pub name: String,
-    /// The journal file at the start: `made`, or its bytes in hexadecimal digits; no bytes where it is missing.
+    /// The journal file at the start: `made`, or its bytes in hexadecimal digits; if it is missing, the file has no
+    /// bytes.
     pub journal: Option<String>,
-    /// The numbers of the disk's calls that fail, counted from 1, which is the write of the journal file.
+    /// The numbers of the disk's calls that fail, counted from 1. Call 1 writes the journal file.
     #[serde(default)]
     pub failing: Vec<u64>,
-    /// The sizes of the pieces in which input comes, in bytes: the whole is done for each.
+    /// The sizes of the pieces in which input comes, in bytes. The whole case is done once for each.
     #[serde(default)]
     pub cuts: Vec<usize>,
     #[serde(default)]
@@ -32,7 +33,7 @@ pub struct Case {
     pub step: Vec<Step>,
     #[serde(default)]
     pub command: Vec<Command>,
-    /// The months for which the keeper of bills has an empty list at the start, each posted by a call.
+    /// The months for which the keeper of bills has an empty list at the start. A call posts each of them.
     #[serde(default)]
     pub kept_months: Vec<String>,
     /// The numbers of the calls of the keeper of bills that fail, counted from 1 over all commands.
@@ -61,14 +62,14 @@ pub struct Write {
 #[derive(Drop, Deserialize)]
 #[serde(deny_unknown_fields)]
 pub struct Step {
-    /// What the clock tells.
+    /// The number that the clock gives.
     pub at: Value,
     /// The method and the target.
     pub ask: String,
     /// The value of a header field Office-Token.
     pub token: Option<String>,
     pub body: Option<String>,
-    /// The first and the last of the numbers for each of which the message is sent, in place of each `{n}` of it.
+    /// The first and the last of the numbers for which the message is sent. Each replaces `{n}` in the message.
     pub numbers: Option<[u64; 2]>,
 }
 
@@ -77,7 +78,7 @@ pub struct Step {
 #[serde(deny_unknown_fields)]
 pub struct Command {
     pub words: Vec<String>,
-    /// What the clock tells, the last again and again.
+    /// The numbers that the clock gives; it repeats the last one.
     pub clock: Vec<Value>,
     pub input: Option<String>,
     /// How many spaces come before the input.
@@ -86,36 +87,36 @@ pub struct Command {
     /// The numbers of the reads of the input that fail, counted from 1.
     #[serde(default)]
     pub failing_reads: Vec<u64>,
-    /// The numbers of the replies and other texts that fail to be said, counted from 1.
+    /// The numbers of the replies and other texts whose writing fails, counted from 1.
     #[serde(default)]
     pub failing_texts: Vec<u64>,
-    /// What the clients of the connections send, a text for each connection.
+    /// What the clients of the connections send: one text for each connection.
     #[serde(default)]
     pub connections: Vec<String>,
-    /// The numbers of the port's calls that fail, counted from 1, which is that it listens.
+    /// The numbers of the port's calls that fail, counted from 1. Call 1 is the one that listens.
     #[serde(default)]
     pub failing_port: Vec<u64>,
 }
 
-/// Stops of the disk: what a message is answered over each image of the journal file.
+/// Stops of the disk: what a message is answered over each crash image of the journal file.
 #[derive(Drop, Deserialize)]
 #[serde(deny_unknown_fields)]
 pub struct Stops {
-    /// The first and the last of the counts of the disk's calls after which it stops.
+    /// The disk stops after each number of calls from the first of these to the second.
     pub calls: [u64; 2],
-    /// What the clock tells.
+    /// The number that the clock gives.
     pub at: Value,
     /// The method and the target.
     pub ask: String,
 }
 
-/// The bytes of two hexadecimal digits each; spaces count for nothing.
+/// The bytes that pairs of hexadecimal digits spell; spaces are ignored.
 pub fn bytes_of(alloc: Global, digits: &str) -> Result<Vec<u8>> {
     let close = digits.replace(alloc, " ", "")?;
     hex::decode(alloc, close.as_str()).context("hexadecimal digits")
 }
 
-/// Reads a number of the clock: a moment of TOML in UTC, a number of milliseconds since 1970, or the digits of one.
+/// Reads a number of the clock: a TOML moment in UTC, a number of milliseconds since 1970, or a text of its digits.
 pub fn number_of(alloc: Global, value: &Value) -> Result<u64> {
     match value {
         Value::Datetime(moment) => milliseconds(alloc, moment),

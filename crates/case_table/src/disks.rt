@@ -1,4 +1,4 @@
-// The disk with which a case starts, and images of it.
+// The disk with which a case starts, and its images.
 use crate::cases::{Case, bytes_of};
 use anyhow::{Result, bail};
 use disk_core::{Disk, FileNo, MemoryDisk};
@@ -8,7 +8,7 @@ use std::collections::BTreeMap;
 /// The journal file without entries.
 const MADE: &[u8] = b"\xA5METERJRN1\x00";
 
-// Writes to the journal file, at most at its end.
+// Writes to the journal file, at an offset up to its end.
 fn write_journal(disk: &mut MemoryDisk, at: u64, bytes: &[u8]) -> Result<()> {
     let Ok(length) = disk.length(FileNo::Journal) else {
         bail!("the length of the journal is not told");
@@ -22,7 +22,7 @@ fn write_journal(disk: &mut MemoryDisk, at: u64, bytes: &[u8]) -> Result<()> {
     Ok(())
 }
 
-/// A disk with this journal file, whose write is its call 1.
+/// A disk with this journal file. Its call 1 is the write of the file.
 pub fn disk_of(alloc: Global, journal: &[u8], failing: &[u64]) -> Result<MemoryDisk> {
     let mut disk = MemoryDisk::new(alloc, failing.to_vec(alloc)?);
     if disk.write_at(FileNo::Journal, 0, journal).is_err() {
@@ -48,7 +48,7 @@ pub fn start(alloc: Global, case: &Case) -> Result<MemoryDisk> {
     Ok(disk)
 }
 
-/// How often each of these images comes.
+/// How often each image occurs among these.
 pub fn count_images(alloc: Global, images: Vec<Vec<u8>>) -> Result<BTreeMap<Vec<u8>, u64>> {
     let mut counts = BTreeMap::new(alloc);
     for image in images {

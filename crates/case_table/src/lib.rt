@@ -1,4 +1,4 @@
-//! The cases of a document, the disks and messages that they ask for, and the texts that are printed of what was done.
+//! The cases of a document, the disks and messages that they need, and the texts that are printed of the results.
 #![tactic(auto)]
 
 mod cases;

@@ -18,7 +18,7 @@ fn message_of(alloc: Global, step: &Step, number: &str) -> Result<String> {
     Ok(text)
 }
 
-// The header field with the token of a step; nothing where it has none.
+// The header field with the token of a step; empty if it has none.
 fn token_field(alloc: Global, step: &Step, number: &str) -> Result<String> {
     let Some(token) = &step.token else {
         return Ok(String::new(alloc));
@@ -55,7 +55,7 @@ impl Session {
     }
 }
 
-/// Adds the messages of a step to a session, and gives them.
+/// Adds the messages of a step to a session, and returns them.
 pub fn add_messages(alloc: Global, session: &mut Session, step: &Step, at: u64) -> Result<String> {
     let [first, last] = step.numbers.unwrap_or([0, 0]);
     let mut messages = String::new(alloc);

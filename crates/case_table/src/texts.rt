@@ -1,9 +1,9 @@
-// What is printed of texts and of replies.
+// How texts and replies are printed.
 use anyhow::Result;
 use std::alloc::{AllocError, Global};
 use std::fmt::Write;
 
-/// Adds the lines of a text, each behind an indent; a last one without an end gets it.
+/// Adds the lines of a text, each after an indent. A last line without a line end gets one.
 pub fn put_lines(page: &mut String, indent: &str, text: &str) -> Result<(), AllocError> {
     for line in text.split_inclusive("\n") {
         page.push_str(indent)?;
@@ -15,7 +15,7 @@ pub fn put_lines(page: &mut String, indent: &str, text: &str) -> Result<(), Allo
     Ok(())
 }
 
-/// Adds the lines of a text that came so often, with the number where it is not 1.
+/// Adds the lines of a text that occurs this often, with the count if it is not 1.
 pub fn put_times(page: &mut String, times: u64, text: &str) -> Result<(), AllocError> {
     match times {
         0 => Ok(()),
@@ -32,13 +32,13 @@ pub fn put_times(page: &mut String, times: u64, text: &str) -> Result<(), AllocE
 struct FirstReply<'a> {
     status: &'a str,
     media: &'a str,
-    /// The number of the body's bytes, as the head has it.
+    /// The number of the body's bytes, as the head gives it.
     length: &'a str,
     body: &'a str,
     rest: &'a str,
 }
 
-// The reply at the front, where its head has these two fields and no other, and the body is whole.
+// The reply at the front, if its head has these two fields and no other, and the body is whole.
 fn first_reply(said: &str) -> Option<FirstReply<'_>> {
     let (head, rest) = said.split_once("\r\n\r\n")?;
     let (status, fields) = head
@@ -55,7 +55,7 @@ fn first_reply(said: &str) -> Option<FirstReply<'_>> {
     })
 }
 
-/// Adds bytes that were said, with a line that has their number; nothing where there are none.
+/// Adds bytes that were written, with a line that has their number; nothing if there are none.
 pub fn put_bytes(
     page: &mut String,
     alloc: Global,
@@ -72,7 +72,8 @@ pub fn put_bytes(
     }
 }
 
-/// Gives of each reply its status, its media type and length, and the body. What is no reply comes last, as it is.
+/// Returns the status, the media type and length, and the body of each reply. Bytes that are not a reply come last, as
+/// they are.
 pub fn tell_replies(alloc: Global, said: &[u8]) -> Result<Vec<String>, AllocError> {
     let mut replies = Vec::new(alloc);
     let mut rest = str::from_utf8(said).unwrap_or("");
@@ -103,8 +104,8 @@ pub fn tell_replies(alloc: Global, said: &[u8]) -> Result<Vec<String>, AllocErro
     Ok(replies)
 }
 
-/// Adds replies, those that are the same right behind one another once, with how often. Where they are numbered, from
-/// the first number on, each has `{n}` in place of its own.
+/// Adds replies. Equal replies right after one another are added once, with their count. If they are numbered, from
+/// the first number on, each has `{n}` in place of its own number.
 pub fn put_counted(
     page: &mut String,
     alloc: Global,
