@@ -16,11 +16,11 @@ use std::fmt::Write;
 use std::sync::Wait;
 use std::thread::Threads;
 
-/// The size of the pieces in which input comes, in bytes, where a case says none.
+/// The size of the pieces in which input comes, in bytes, if a case gives none.
 const CUT: usize = 8192;
 
-// Sends the messages of a step in a run of their own, and prints what they are answered. The first number of the clock
-// is that of the run itself.
+// Sends the messages of a step in a run of their own, and prints the replies. The first number of the clock is that of
+// the run itself.
 fn tell_step<R: Threads + Wait + Sync>(
     rt: &R,
     alloc: Global,
@@ -51,8 +51,8 @@ fn tell_step<R: Threads + Wait + Sync>(
     Ok(ran.disk)
 }
 
-// Prints whether all messages in one run over another disk are answered the same, with the same journal in the end, and
-// gives that disk.
+// Prints whether all messages in one run over another disk get the same replies and leave the same journal. Returns
+// that disk.
 fn tell_whole<R: Threads + Wait + Sync>(
     rt: &R,
     alloc: Global,
@@ -133,7 +133,7 @@ fn keeper_of(alloc: Global, case: &Case) -> Result<MapKeeper> {
     Ok(keeper)
 }
 
-// Prints what is left on the disk.
+// Prints what the disk holds.
 fn tell_disk(alloc: Global, page: &mut String, case: &Case, disk: &mut MemoryDisk) -> Result<()> {
     if !case.failing.is_empty() {
         writeln!(page, "  faults of the disk: {}", disk.faults())?;
@@ -151,7 +151,7 @@ fn tell_disk(alloc: Global, page: &mut String, case: &Case, disk: &mut MemoryDis
     Ok(())
 }
 
-// Prints what the message of these stops is answered over images of the journal, each answer once, with how often.
+// Prints the replies to the message of these stops over crash images of the journal, each reply once, with its count.
 fn tell_images<R: Threads + Wait + Sync>(
     rt: &R,
     alloc: Global,
@@ -199,7 +199,7 @@ fn tell_stops<R: Threads + Wait + Sync>(
     Ok(())
 }
 
-// Does all of a case over input in pieces of this size.
+// Does a whole case over input in pieces of this size.
 fn tell_pieces<R: Threads + Wait + Sync>(
     rt: &R,
     alloc: Global,
@@ -219,7 +219,7 @@ fn tell_pieces<R: Threads + Wait + Sync>(
     Ok(page)
 }
 
-/// Does a case, and gives what is printed of it.
+/// Does a case, and returns what is printed of it.
 pub fn tell_case<R: Threads + Wait + Sync>(rt: &R, alloc: Global, case: &Case) -> Result<String> {
     let mut page = format!(in alloc; "case: {}\n", case.name)?;
     let (first, others) = match case.cuts.split_first() {

@@ -12,7 +12,7 @@ use std::alloc::Global;
 use std::sync::Wait;
 use std::thread::Threads;
 
-/// What a command of the program is given, but for the disk.
+/// What a command of the program is given, except the disk.
 #[derive(Drop)]
 pub struct Given<'a> {
     words: &'a [String],
@@ -31,13 +31,13 @@ pub struct Ran {
     pub disk: MemoryDisk,
 }
 
-/// Does one command that asks for no bills.
+/// Does one command that posts no bills.
 pub fn run<R: Threads + Wait + Sync>(rt: &R, alloc: Global, given: Given, disk: MemoryDisk) -> Ran {
     let mut keeper = MapKeeper::new(alloc, Vec::new(alloc));
     run_with(rt, alloc, given, disk, &mut keeper)
 }
 
-/// Does one command, with a keeper of bills. It is the one place at which the program is called.
+/// Does one command, with a keeper of bills. Only this function calls the program.
 pub fn run_with<R: Threads + Wait + Sync>(
     rt: &R,
     alloc: Global,
@@ -72,7 +72,7 @@ pub fn run_with<R: Threads + Wait + Sync>(
     }
 }
 
-// A port on which these texts come, and of which the calls with these numbers fail.
+// A port on which these texts come. Its calls with these numbers fail.
 fn port_of(alloc: Global, texts: &[String], failing: &[u64]) -> Result<MemoryPort> {
     let mut lines = Vec::new(alloc);
     for text in texts {
@@ -84,7 +84,7 @@ fn port_of(alloc: Global, texts: &[String], failing: &[u64]) -> Result<MemoryPor
     }
 }
 
-/// What a run over these messages is given, whose input comes in pieces of this size.
+/// What a run over these messages is given. Its input comes in pieces of this size.
 pub fn given_messages<'a>(
     alloc: Global,
     words: &'a [String],

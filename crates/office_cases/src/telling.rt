@@ -1,10 +1,10 @@
-// What is printed of what the program said.
+// How the outputs of the program are printed.
 use crate::running::Ran;
 use case_table::{put_bytes, put_lines, tell_replies};
 use std::alloc::{AllocError, Global};
 use std::fmt::Write;
 
-// Adds what was said on each connection.
+// Adds what was written on each connection.
 fn put_connections(page: &mut String, alloc: Global, ran: &Ran) -> Result<(), AllocError> {
     for nth in 1..u64::MAX {
         let Some(said) = ran.port.said(nth) else {
@@ -18,7 +18,7 @@ fn put_connections(page: &mut String, alloc: Global, ran: &Ran) -> Result<(), Al
     Ok(())
 }
 
-/// Gives what a command did beside its replies: its status, texts, connections and notes.
+/// Returns what a command did apart from its replies: its status, texts, connections and notes.
 pub fn tell_others(alloc: Global, ran: &Ran) -> Result<String, AllocError> {
     let mut page = format!(in alloc; "status {}\n", ran.status)?;
     put_bytes(&mut page, alloc, "text", ran.out.texts())?;
@@ -27,7 +27,7 @@ pub fn tell_others(alloc: Global, ran: &Ran) -> Result<String, AllocError> {
     Ok(page)
 }
 
-/// Gives all that a command did.
+/// Returns everything that a command did.
 pub fn tell(alloc: Global, ran: &Ran) -> Result<String, AllocError> {
     let mut page = String::new(alloc);
     for reply in &tell_replies(alloc, ran.out.said())? {
