@@ -10,7 +10,7 @@ use moments::{Moment, Month, month_of};
 use std::alloc::Global;
 use std::process::Abort;
 
-// What is booked of an object: its class and size, when its stay began, and when it ended.
+// A stay to book: the class and size of the object, when the stay began, and when it ended.
 type Stay = (Class, u64, u64, Option<u64>);
 
 fn lines(rt: &impl Abort, class: Class, size: u64) -> Lines
@@ -76,7 +76,7 @@ fn after(rt: &impl Abort, alloc: Global, first: Stay, second: Stay) -> Meters
     meters
 }
 
-// What is booked, the day of January 2024 at whose start it is read, from 0, the month and class, and what is read.
+// Two stays, the day of January 2024 at whose start they are read, from 0, the month and class, and the value read.
 type Reading = ((Stay, Stay), u64, (u16, u8), Class, u128);
 
 fn read_all(rt: &impl Abort, alloc: Global, readings: &[Reading]) {
@@ -150,14 +150,14 @@ fn a_transition(rt: HostRuntime) {
     );
 }
 
-// The bytes, the days in the class, and what is owed.
+// The bytes, the days in the class, and the early-deletion quantity in byte-milliseconds.
 const EARLY: [(u64, u64, u128); 3] = [
     (131_072, 10, 226_492_416_000_000),
     (131_072, 30, 0),
     (200_000, 10, 345_600_000_000_000),
 ];
 
-// Meters of bytes that left STANDARD_IA so many days after New Year.
+// Meters of bytes that left STANDARD_IA this many days after New Year.
 fn left_early(rt: &impl Abort, alloc: Global, bytes: u64, days: u64) -> Meters {
     assert!(rt; bytes <= 1_000_000);
     let mut meters = Meters::new(alloc);
@@ -184,7 +184,7 @@ fn early_quantities(rt: HostRuntime) {
     }
 }
 
-// A year, a month and a class, and how many objects moved into the class in it.
+// A year, a month and a class, and how many objects moved into the class in that month.
 const MOVES: [(u16, u8, Class, u64); 3] = [
     (2024, 1, Class::StandardIa, 1),
     (2024, 1, Class::Standard, 0),
@@ -226,7 +226,7 @@ fn are_small(sums: &[MonthSums]) -> bool
     true
 }
 
-// Meters that go on from the sums of others stand for the same books, those with a stay that has no end left out.
+// Meters that go on from the sums of others have the same books, except for stays that have no end.
 fn gone_on(rt: &impl Abort, alloc: Global, meters: &Meters) -> Meters
     ensures { (book : Book) → AreTotalsOf meters.now book → HasAllEnded book → AreTotalsOf result book }
 {
@@ -279,7 +279,7 @@ const OF_MARCH: Stay = (
 
 const NO_TIME: Stay = (Class::Standard, 7, NEW_YEAR, Some(NEW_YEAR));
 
-// What is booked, and the months listed of it.
+// Two stays, and the months that are listed for them.
 const SUMS: [(Stay, Stay, &[Ended]); 4] = [
     (OPEN, NOTHING, &[]),
     (
@@ -308,8 +308,8 @@ fn sums_of_stays(rt: HostRuntime) {
     }
 }
 
-// Meters of a stay of STANDARD_IA over February 2024 and one of STANDARD after it, and of bytes that left STANDARD_IA
-// ten days early on 2024-03-02 and of one that moved there then; and the meters that go on from them.
+// Meters of a stay of STANDARD_IA over February 2024 and one of STANDARD after it. On 2024-03-02 bytes left STANDARD_IA
+// ten days early, and an object moved there. Then the meters that go on from them.
 fn of_february(rt: &impl Abort, alloc: Global) -> Meters {
     let (from, to) = (NEW_YEAR + 30 * DAY, NEW_YEAR + 61 * DAY);
     let warm = (Class::StandardIa, 131_072, from, Some(to));
@@ -325,7 +325,7 @@ fn of_february(rt: &impl Abort, alloc: Global) -> Meters {
     gone_on(rt, alloc, &meters)
 }
 
-// The month, the class, its byte-milliseconds, what was owed, and the moves.
+// The month, the class, its byte-milliseconds, its early-deletion quantity, and the moves.
 const GONE_ON: [(u8, Class, u128, u128, u64); 5] = [
     (1, Class::StandardIa, 131_072 * 86_400_000, 0, 0),
     (2, Class::StandardIa, 131_072 * 2_505_600_000, 0, 0),

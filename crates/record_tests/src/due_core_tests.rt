@@ -19,7 +19,7 @@ const PUT: u64 = 1_702_198_800_000;
 
 const DUE: u64 = 1_704_844_800_000;
 
-// What a rule asks, in days.
+// What a rule asks for, in days.
 #[derive(Clone, Copy)]
 enum Asked {
     Expire(u32),
@@ -28,8 +28,8 @@ enum Asked {
     Clear,
 }
 
-// A key's versions, all put at one moment, the rules on them, and the action that is chosen: its kind, the number of
-// its version (0 for the null version), the place of its rule, and its moment.
+// A key's versions, all put at one moment, the rules on them, and the action that is chosen. The action has its kind,
+// the number of its version (0 for the null version), the place of its rule, and its moment.
 struct Row {
     versioning: Versioning,
     // From the newest; 0 is the null version.
@@ -68,7 +68,7 @@ fn stack(rt: &impl Abort, alloc: Global, row: &Row, put: Moment) -> Stack {
     Stack::of(put, versions).expect(rt, "a stack")
 }
 
-// A rule that asks for this alone.
+// A rule that asks only for this.
 #[tactic(auto, unfolding(rules_core::specs::Configurations::has_midnights))]
 fn rule(rt: &impl Abort, alloc: Global, asked: Asked) -> Rule
     ensures { has_midnights result ≡ true }
@@ -209,7 +209,7 @@ const ROWS: [Row; 10] = [
         t: DUE,
         chosen: None,
     },
-    // The colder class; small objects are not moved.
+    // The colder class wins; small objects are not moved.
     Row {
         versioning: Versioning::Enabled,
         numbers: &[1],
@@ -228,7 +228,7 @@ const ROWS: [Row; 10] = [
         t: DUE,
         chosen: None,
     },
-    // An action stands at its moment, however late it is asked for.
+    // An action has the moment at which it was due, however late it is asked for.
     Row {
         versioning: Versioning::Enabled,
         numbers: &[1],
@@ -238,7 +238,7 @@ const ROWS: [Row; 10] = [
         t: 1_705_233_600_000,
         chosen: Some((ActionKind::Transition(Class::StandardIa), 1, 1, DUE)),
     },
-    // A delete marker that stands alone, made at a midnight.
+    // A delete marker without any version below it, made at a midnight.
     Row {
         versioning: Versioning::Suspended,
         numbers: &[0],
@@ -250,7 +250,7 @@ const ROWS: [Row; 10] = [
     },
 ];
 
-// The action that a row wants.
+// The action that a row expects.
 fn wanted(row: &Row) -> Option<(ActionKind, Target, u32, u64)> {
     match row.chosen {
         Some((kind, number, rule, since)) => Some((kind, Target::Version(id(number)), rule, since)),
@@ -267,7 +267,7 @@ fn shown(rt: &impl Abort, alloc: Global, row: &Row) -> Option<(ActionKind, Targe
     }
 }
 
-// The S3 User Guide, "Examples of S3 Lifecycle configurations", and rows that were reckoned by hand.
+// The S3 User Guide, "Examples of S3 Lifecycle configurations", and rows that were computed by hand.
 #[test]
 fn what_is_chosen(rt: HostRuntime) {
     for (index, row) in ROWS.iter().enumerate() {
@@ -280,7 +280,7 @@ fn what_is_chosen(rt: HostRuntime) {
     }
 }
 
-// The actions that have come, in their order.
+// The actions that are due, in their order.
 fn listed(rt: &impl Abort, alloc: Global, row: &Row) -> Vec<(ActionKind, u32, u64)> {
     let bucket = bucket(rt, alloc, row);
     let actions = candidates(alloc, &bucket, moment(rt, row.t)).expect(rt, "memory");
@@ -294,7 +294,7 @@ fn listed(rt: &impl Abort, alloc: Global, row: &Row) -> Vec<(ActionKind, u32, u6
 
 const MOVED: (ActionKind, u32, u64) = (ActionKind::Transition(Class::StandardIa), 1, DUE);
 
-// A transition and an expiration that come at one midnight, in their order: the S3 User Guide's conflicting rules.
+// A transition and an expiration that are due at one midnight, in their order: the S3 User Guide's conflicting rules.
 #[test]
 fn what_is_listed(rt: HostRuntime) {
     let removed = listed(&rt, rt.alloc(), &ROWS[2]);

@@ -35,7 +35,7 @@ fn moments_end_at_2100(rt: HostRuntime) {
     assert_eq!(rt; Moment::last().ms(), 4_102_444_799_999);
 }
 
-// A moment, days, and the midnight that is due then, by the rules' examples.
+// A moment, a number of days, and the midnight that is due then, by the rules' examples.
 const DUE: [(u64, u32, Option<u64>); 6] = [
     (1_389_781_800_000, 3, Some(1_390_089_600_000)),
     (1_389_744_000_000, 3, Some(1_390_003_200_000)),

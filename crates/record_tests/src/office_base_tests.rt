@@ -143,7 +143,7 @@ fn version_ids(rt: HostRuntime) {
     }
 }
 
-// Whether these pairs are given, in their order.
+// Whether these pairs are given, in order.
 fn are(given: &[(String, String)], wanted: &[Pair]) -> bool {
     for ((key, value), wanted) in given.iter().zip(wanted) {
         if key.as_str() != wanted.0 || value.as_str() != wanted.1 {
@@ -184,7 +184,7 @@ const GIVEN: [Pair; 4] = [("kind", "raw"), ("Keep", "no"), ("ä", ""), ("a", "x"
 
 const KEPT: [Pair; 4] = [("Keep", "no"), ("a", "x"), ("kind", "raw"), ("ä", "")];
 
-// Pairs, and how many tags they are.
+// Pairs, and how many tags they make.
 const TAGS: [(&[Pair], Result<usize, NameRefusal>); 5] = [
     (&GIVEN, Ok(4)),
     (&TEN, Ok(10)),
@@ -218,7 +218,7 @@ fn tags_in_the_order_of_their_keys(rt: HostRuntime) {
     assert!(rt; are(copy.pairs(), &KEPT));
 }
 
-// One tag, whose key and value repeat a text so often, and whether it is one.
+// A tag whose key and value each repeat a text this often, and whether it is a tag.
 const LONG_TAGS: [(&str, usize, &str, usize, Result<usize, NameRefusal>); 3] = [
     ("ä", 128, "ß", 256, Ok(1)),
     ("k", 129, "x", 1, Err(NameRefusal::BadTags)),

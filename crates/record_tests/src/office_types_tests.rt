@@ -11,7 +11,7 @@ const SIXTY_FOUR: &[u8] = b"0123456789012345678901234567890123456789012345678901
 
 const SIXTY_FIVE: &[u8] = b"01234567890123456789012345678901234567890123456789012345678901234";
 
-// Bytes, and whether they are a token: 1 to 64 bytes from 21 to 7E.
+// Bytes, and whether they are a token: 1 to 64 bytes from 21 to 7E (hexadecimal).
 const TOKENS: [(&[u8], bool); 14] = [
     (b"", false),
     (b"t1", true),
@@ -185,7 +185,7 @@ fn kinds_of_commands(rt: HostRuntime) {
     }
 }
 
-// A command that may carry a token is the same as itself and its copy, and as no other one of the table.
+// A command that may carry a token equals itself and its copy, and no other one of the table.
 #[test]
 fn commands_that_are_the_same(rt: HostRuntime) {
     let alloc = rt.alloc();
@@ -201,7 +201,7 @@ fn commands_that_are_the_same(rt: HostRuntime) {
     }
 }
 
-// What is kept of a command: whether its reply tells of a delete marker, and the number that it tells; and the reply.
+// What is kept of a command's reply: whether it reports a delete marker, its number, and the reply.
 #[derive(Clone, Copy, Debug, PartialEq, Eq)]
 enum Said {
     Made,
@@ -272,7 +272,7 @@ fn told_by(reply: &Reply) -> Said {
     }
 }
 
-// The null version is told as 0, and no other one is.
+// The null version is reported as 0, and no other version is.
 fn stored(is_null: bool, number: u64) -> Said {
     if is_null == (number == 0) {
         Said::Stored(number)

@@ -91,7 +91,7 @@ const BOUNDS: [(Option<u64>, Option<u64>, bool); 3] = [
     (None, Some(100), false),
 ];
 
-// What a filter with these bounds admits: the object, a delete marker, an upload, and a move of the object.
+// What a filter with these bounds admits: the object, a delete marker, an upload, and a transition of the object.
 fn admitted(
     rt: &impl Abort,
     alloc: Global,
@@ -160,7 +160,7 @@ fn refusal(rt: &impl Abort, alloc: Global, ids: &[&str]) -> Option<RuleRefusal> 
     RuleSet::check(alloc, rules(rt, alloc, ids), SizeMode::All128K).err()
 }
 
-// 1,001 rules, and rules of which two have one id, once it is filled in.
+// 1,001 rules; and rules of which two have the same id, after a missing one is filled in.
 #[test]
 fn rules_that_are_refused(rt: HostRuntime) {
     assert_eq!(rt;

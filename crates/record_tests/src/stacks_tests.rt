@@ -106,7 +106,7 @@ fn remove(
     stack.remove(id, at)
 }
 
-// Sets tags, and gives how many there were.
+// Sets tags, and returns how many there were.
 fn set_tags(
     rt: &impl Abort,
     stack: &mut Stack,
@@ -132,7 +132,7 @@ fn move_class(
     stack.move_class(id, to, at)
 }
 
-// Does a change on a day, and gives the version that went.
+// Does a change on a day, and returns the version that was removed.
 fn done(
     rt: &impl Abort,
     alloc: Global,
@@ -149,7 +149,7 @@ fn done(
     }
 }
 
-// Does a step on a day, and gives the row of the version that went.
+// Does a step on a day, and returns the row of the version that was removed.
 fn step(
     rt: &impl Abort,
     alloc: Global,
@@ -175,7 +175,7 @@ fn are(versions: &[Version], rows: &[Row]) -> bool {
     versions.len() == rows.len()
 }
 
-// Does the steps day by day, and gives what the last one takes out.
+// Does the steps day by day, and returns the version that the last one removes.
 fn done_daily(rt: &impl Abort, alloc: Global, stack: &mut Stack, steps: &[Change]) -> Option<Row> {
     let mut last = None;
     for (today, next) in steps.iter().enumerate() {
@@ -184,7 +184,7 @@ fn done_daily(rt: &impl Abort, alloc: Global, stack: &mut Stack, steps: &[Change
     last
 }
 
-// Steps, the version that the last one takes out, and the versions that are left.
+// Steps, the version that the last one removes, and the versions that are left.
 #[derive(Clone, Copy)]
 struct Case {
     steps: &'static [Change],
@@ -321,7 +321,7 @@ fn refused_changes(rt: HostRuntime) {
     assert_eq!(rt; stack.changed(), day(&rt, 1));
 }
 
-// How many tags a version has, its class, and the moment at which it went into that; none of a marker.
+// How many tags a version has, its class, and the moment at which it entered the class; none for a marker.
 fn told(version: &Version) -> Option<(usize, Class, u64)> {
     match &version.kind {
         Kind::Object {
@@ -359,7 +359,7 @@ fn are_told(versions: &[Version], wanted: &[(usize, Class, u64)]) -> bool {
     versions.len() == wanted.len()
 }
 
-// Three versions, of which one gets a tag on day 9 and another one another class.
+// Three versions. On day 9 one gets a tag, and another one moves to another class.
 fn with_changes(rt: &impl Abort, alloc: Global) -> Stack {
     let mut stack = of_days(rt, alloc, 3);
     let one = tags(rt, alloc, &[("kind", "raw")]);
@@ -377,7 +377,7 @@ fn tags_and_classes(rt: HostRuntime) {
     assert!(rt; are_told(stack.versions(), &CHANGED));
 }
 
-// Whether the numbers of versions fall by one from this one on.
+// Whether the numbers of versions fall by one, beginning with this one.
 fn are_falling(versions: &[Version], from: u64) -> bool {
     let mut wanted = from;
     for version in versions {
@@ -425,7 +425,7 @@ fn markers(rt: &impl Abort, alloc: Global, numbers: &[u64]) -> Vec<Version> {
     versions
 }
 
-// The numbers of markers of one day, and whether they are a stack.
+// The numbers of markers of one day, and whether they make a stack.
 const NUMBERS: [([u64; 3], bool); 5] = [
     ([4, 0, 2], true),
     ([2, 4, 3], true),
@@ -442,7 +442,8 @@ fn stacks_of_markers(rt: HostRuntime) {
     }
 }
 
-// The days on which a marker was created and ceased, the day of the stack's last change, and whether it is a stack.
+// The days on which a marker was created and ceased, the day of the stack's last change, and whether it is a valid
+// stack.
 const DAYS: [(u64, u64, u64, bool); 3] = [(1, 2, 2, true), (1, 2, 1, false), (2, 1, 1, false)];
 
 #[test]

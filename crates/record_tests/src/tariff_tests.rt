@@ -27,7 +27,7 @@ fn prices_by_class(rt: HostRuntime) {
     }
 }
 
-// Prices, and whether they are a tariff.
+// Prices, and whether they make a tariff.
 const LARGEST: [([u32; 6], [u32; 5], bool); 3] = [
     ([1_048_576; 6], [1_048_576; 5], true),
     ([0, 0, 0, 0, 0, 1_048_577], TRANSITION, false),
@@ -65,7 +65,7 @@ fn charges_of_a_month(rt: HostRuntime) {
     }
 }
 
-// Up to a GiB-month, from there up to fifty, and all above.
+// Up to 1 GiB-month, from there up to 50, and everything above.
 const IN_TIERS: [Tier; 3] = [
     Tier {
         upto: Some(1),
@@ -81,7 +81,7 @@ const IN_TIERS: [Tier; 3] = [
     },
 ];
 
-// Byte-milliseconds of January 2024, and the charge: half a GiB for the whole month, a GiB, one byte-millisecond more and
+// Byte-milliseconds of January 2024, and the charge: half a GiB for the whole month, a GiB, one byte-millisecond more,
 // as many as give the next unit, three GiB, fifty, 50.5, and the largest quantity of 128 bits.
 const TIERED: [(u128, u128); 8] = [
     (1_437_955_050_700_800_000, 11_500),
@@ -103,7 +103,7 @@ fn charges_in_tiers(rt: HostRuntime) {
     }
 }
 
-// Ends and prices, and whether they are tiers of a class.
+// Ends and prices, and whether they are the tiers of a class.
 const TIER_LISTS: [(&[(Option<u32>, u32)], bool); 8] = [
     (&[], false),
     (&[(None, 1_048_576)], true),
@@ -173,7 +173,7 @@ fn told_fault(rt: &impl Abort, alloc: Global, fault: &TariffFault) -> String {
     }
 }
 
-// Prices, each behind a space.
+// Prices, each after a space.
 fn listed(rt: &impl Abort, alloc: Global, prices: &[u32]) -> String {
     let mut text = String::new(alloc);
     for price in prices {
@@ -183,7 +183,7 @@ fn listed(rt: &impl Abort, alloc: Global, prices: &[u32]) -> String {
     text
 }
 
-// Tiers, each behind a space: up to where it goes, if it ends, and its price.
+// Tiers, each after a space: its end, if it has one, and its price.
 fn listed_tiers(rt: &impl Abort, alloc: Global, tariff: &Tariff) -> String {
     let mut text = String::new(alloc);
     for tiers in &tariff.storage {
@@ -225,12 +225,12 @@ const OTHERS: &str =
 
 const PRICES: &str = " 0 1048576 10000 4000 3600 990 10 11 20 30 50";
 
-// Two texts that stand one behind the other, and what is told of them: TOML v1.1.0 for the texts, the S3 User Guide for
-// the classes.
+// Two texts, one after the other, and the answer for them: TOML v1.1.0 for the texts, the S3 User Guide for the
+// classes.
 const TARIFFS: [(&str, &str, &str); 44] = [
     (STORAGE_TABLE, TRANSITION_TABLE, PRICES),
     (TRANSITION_TABLE, STORAGE_TABLE, PRICES),
-    // A first month, which may stand anywhere at the top.
+    // A first month, anywhere at the top level.
     (
         "from = \"2024-01\"\n",
         WHOLE,
@@ -244,7 +244,7 @@ const TARIFFS: [(&str, &str, &str); 44] = [
     ("from = \"2024-1\"\n", WHOLE, "BadFrom"),
     ("from = 2024-01-01\n", WHOLE, "BadFrom"),
     ("[from]\n", WHOLE, "BadFrom"),
-    // Fields that are none come before it, and it comes before names that are none.
+    // Unknown fields are reported before it, and it is reported before unknown names.
     ("from = 1\nzone = 1\n", "", "UnknownField zone"),
     ("from = 1\n", "[storage]\nGOLD = 1\n", "BadFrom"),
     // Tiers.
@@ -279,12 +279,12 @@ const TARIFFS: [(&str, &str, &str); 44] = [
         OTHERS,
         "BadPrice storage STANDARD",
     ),
-    // No document.
+    // Not a document.
     ("storage", "", "NotToml"),
     (STORAGE_TABLE, "[storage]\n", "NotToml"),
     ("[storage]\nSTANDARD = 9223372036854775808\n", "", "NotToml"),
     ("[storage]\nSTANDARD = 01\n", "", "NotToml"),
-    // A field that is none of the two tables, the first by its bytes, before the names in the tables.
+    // A field that is neither of the two tables, the first in byte order, before the names in the tables.
     ("b = 1\na = 1\n", STORAGE_TABLE, "UnknownField a"),
     ("zone = 1\n", "[storage]\nB = 1\n", "UnknownField zone"),
     ("[Storage]\n", "", "UnknownField Storage"),
@@ -295,7 +295,7 @@ const TARIFFS: [(&str, &str, &str); 44] = [
         "UnknownField transition",
     ),
     ("[[storage]]\n", "", "UnknownField storage"),
-    // A name that is no class of the table, before missing classes.
+    // A name that is not a class of the table, before missing classes.
     (
         "[storage]\nstandard = 1\nGOLD = 1\n",
         "",
@@ -311,7 +311,7 @@ const TARIFFS: [(&str, &str, &str); 44] = [
         "[transition]\nSTANDARD = 1\n",
         "UnknownField STANDARD",
     ),
-    // A class without a price, and a price that is none.
+    // A class without a price, and a price that is invalid.
     ("", "", "MissingClass storage STANDARD"),
     ("", TRANSITION_TABLE, "MissingClass storage STANDARD"),
     (
@@ -357,7 +357,7 @@ const TARIFFS: [(&str, &str, &str); 44] = [
     ),
 ];
 
-// Whether a text is told like this.
+// Whether this is the answer for a text.
 fn is_told(rt: &impl Abort, alloc: Global, bytes: &[u8], answer: &str) -> bool {
     told(rt, alloc, bytes).as_str() == answer
 }

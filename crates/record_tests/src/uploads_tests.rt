@@ -102,7 +102,7 @@ fn largest(rt: &impl Abort, alloc: Global) -> Upload {
     upload
 }
 
-// What is put then.
+// What is put after that.
 const MORE: [Case; 4] = [
     (1_025, 1, 2, Err(UploadRefusal::BadPart), 5_120 * GIB),
     (1_025, 0, 2, Ok(None), 5_120 * GIB),
@@ -117,8 +117,8 @@ fn parts_up_to_the_largest_object(rt: HostRuntime) {
     put_all(&rt, &mut upload, &MORE);
 }
 
-// A part: its number and size, the days of the upload's start, of the part and of the last change; and whether they are
-// an upload.
+// A part: its number and size, the days of the upload's start, of the part and of the last change; and whether they
+// make an upload.
 const PARTS: [(u32, u64, u64, u64, u64, bool); 7] = [
     (1, 1, 0, 1, 1, true),
     (10_000, 5_368_709_120, 0, 1, 1, true),

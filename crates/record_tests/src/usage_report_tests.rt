@@ -38,7 +38,7 @@ struct Printed {
     table: &'static [&'static str],
 }
 
-// What is printed of lines: as CSV, and as a table by Python's format `{:<24} {:<12} {:<14} {:>28} {:>16}`.
+// How lines are printed: as CSV, and as a table by Python's format `{:<24} {:<12} {:<14} {:>28} {:>16}`.
 const NOTHING: Printed = Printed {
     csv: &["bucket,line,class,quantity,price,charge", ",total,,,,0"],
     table: &[
