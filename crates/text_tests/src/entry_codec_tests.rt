@@ -31,7 +31,7 @@ const TAGGED: [u8; 49] = [
     0x77,
 ];
 
-// NEW_YEAR and these bytes.
+// NEW_YEAR, and these bytes after it.
 fn entry_of(rt: &impl Abort, alloc: Global, behind: &[u8]) -> Vec<u8> {
     let mut bytes = Vec::new(alloc);
     bytes
@@ -41,7 +41,7 @@ fn entry_of(rt: &impl Abort, alloc: Global, behind: &[u8]) -> Vec<u8> {
     bytes
 }
 
-// The fault of NEW_YEAR and these bytes; none where they are an entry.
+// The fault of NEW_YEAR and these bytes; none if they are an entry.
 fn fault_of(rt: &impl Abort, alloc: Global, behind: &[u8]) -> Option<EntryFault> {
     let bytes = entry_of(rt, alloc, behind);
     decode(alloc, &bytes).err()
@@ -153,7 +153,7 @@ fn a_tariff_in_tiers_is_written(rt: HostRuntime) {
     assert!(rt; is_written(&rt, alloc, None, Command::SetTariff { tariff }, &TIERED));
 }
 
-// The bytes behind the moment, by the table of kinds.
+// The bytes after the moment, by the table of kinds.
 const ENTRIES: [&[u8]; 35] = [
     b"\x01\0\x04logs",
     b"\x02\0\x04logs\x01",
@@ -202,7 +202,7 @@ fn every_kind_is_read_and_written(rt: HostRuntime) {
     }
 }
 
-// The bytes behind the moment, and where the first field begins that breaks the format.
+// The bytes after the moment, and the offset of the first field that is invalid.
 const FAULTS: [(&[u8], u64); 27] = [
     (b"", 8),
     (b"\x11\0\x04logs", 8),
@@ -245,7 +245,7 @@ const FAULTS: [(&[u8], u64); 27] = [
     (b"\x0f\x07\xe8\x0c\0", 12),
 ];
 
-// The same of entries with tokens. Rules, acts and prices carry none.
+// The same for entries with tokens. Rules, acts and prices carry none.
 const TOKEN_FAULTS: [(&[u8], u64); 16] = [
     (b"\x80\x02t1\0\x04logs", 8),
     (b"\x83\x02t1\0\x04logs\0\0\0\0", 8),
@@ -272,7 +272,7 @@ const TOKEN_FAULTS: [(&[u8], u64); 16] = [
     (b"\x8f\x01t\x07\xe8\x0d", 13),
 ];
 
-// The front and the rest of an entry with tiers: for six classes one tier at no price, and five prices of moves.
+// The front and the rest of an entry with tiers: six classes with one tier at price 0, and the prices of five moves.
 const FROM_2024: &[u8] = b"\x10\x07\xe8\x01";
 
 const FIVE_CLASSES: &[u8] =
@@ -284,8 +284,7 @@ const MOVES: &[u8] = b"\0\0\0\0\0\0\0\0\0\0\0\0\0\0\0\0\0\0\0\0";
 
 const NO_BYTES: &[u8] = b"";
 
-// The parts behind the moment, and where the first field begins that breaks the format. The tiers of a class are one
-// field.
+// The parts after the moment, and the offset of the first field that is invalid. The tiers of a class are one field.
 const TIER_FAULTS: [([&[u8]; 5], u64); 17] = [
     ([b"\x10\0\x04", b"\x01", ONE_CLASS, FIVE_CLASSES, MOVES], 9),
     (
@@ -297,7 +296,7 @@ const TIER_FAULTS: [([&[u8]; 5], u64); 17] = [
         [b"\x10\x07\xe8", b"\x0d", ONE_CLASS, FIVE_CLASSES, MOVES],
         11,
     ),
-    // No tier, and nine.
+    // No tier, and nine tiers.
     ([FROM_2024, b"\0", NO_BYTES, FIVE_CLASSES, MOVES], 12),
     (
         [
@@ -309,7 +308,7 @@ const TIER_FAULTS: [([&[u8]; 5], u64); 17] = [
         ],
         12,
     ),
-    // The last tier has an end; one before the last has none; an end that does not rise.
+    // The last tier has an end; a tier before the last has none; an end that does not rise.
     (
         [
             FROM_2024,
@@ -386,9 +385,9 @@ const TIER_FAULTS: [([&[u8]; 5], u64); 17] = [
         ],
         82,
     ),
-    // A byte too many.
+    // One byte too many.
     ([FROM_2024, ONE_CLASS, FIVE_CLASSES, MOVES, b"\0"], 86),
-    // What the shorter kind spells, from January 1970 with a tier for each class; bytes behind it come later.
+    // What the shorter kind spells, from January 1970 with one tier for each class; bytes after it are reported later.
     (
         [
             b"\x10\x07\xb2\x01",
@@ -434,7 +433,7 @@ fn a_fault_names_its_field_of_tiers(rt: HostRuntime) {
 const RULE: &[u8] =
     b"{\"Expiration\":{\"Days\":9},\"Filter\":{\"Prefix\":\"\"},\"ID\":\"a\",\"Status\":\"Enabled\"}";
 
-// A rule with a space; with its fields in another order; without its id; with a flaw; and no JSON.
+// A rule with a space; with its fields in another order; without its id; with a flaw; and a text that is not JSON.
 const OTHER_TEXTS: [&[u8]; 5] = [
     b"{\"Expiration\":{\"Days\":9}, \"Filter\":{\"Prefix\":\"\"},\"ID\":\"a\",\"Status\":\"Enabled\"}",
     b"{\"ID\":\"a\",\"Expiration\":{\"Days\":9},\"Filter\":{\"Prefix\":\"\"},\"Status\":\"Enabled\"}",
@@ -443,7 +442,7 @@ const OTHER_TEXTS: [&[u8]; 5] = [
     b"{",
 ];
 
-// The bytes behind the moment of an entry that sets the rules of `logs`, with this text of one rule.
+// The bytes after the moment of an entry that sets the rules of `logs`, with this text of one rule.
 fn set_rules(rt: &impl Abort, alloc: Global, rule: &[u8]) -> Vec<u8> {
     let (head, tail) = (
         b"{\"Rules\":[".as_slice(),

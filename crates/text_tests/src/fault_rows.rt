@@ -1,4 +1,4 @@
-// Documents that are no configuration, with documents next to those, and their answers, as the tests write them.
+// Documents that are not a configuration, with documents close to them, and their answers, as the tests write them.
 
 // Texts, the outermost object, and the names of fields (RFC 8259; S3 User Guide, "Lifecycle configuration elements").
 pub(crate) const JSON_ROWS: [(&str, &str); 54] = [
@@ -19,7 +19,7 @@ pub(crate) const JSON_ROWS: [(&str, &str); 54] = [
          'NoncurrentDays':30},'Status':'Enabled'}],\
          'TransitionDefaultMinimumObjectSize':'all_storage_classes_128K'}",
     ),
-    // No JSON.
+    // Not JSON.
     ("", "NotJson"),
     ("{", "NotJson"),
     ("{'Rules':[]} x", "NotJson"),
@@ -76,7 +76,7 @@ pub(crate) const JSON_ROWS: [(&str, &str); 54] = [
         "{'TransitionDefaultMinimumObjectSize':1,'Rules':[{'Status':'Enabled'}]}",
         "WrongShape TransitionDefaultMinimumObjectSize",
     ),
-    // Of a name that stands twice the last value counts.
+    // If a name occurs twice, the last value counts.
     (
         "{'Rules':7,'Rules':[]}",
         "{'Rules':[],'TransitionDefaultMinimumObjectSize':'all_storage_classes_128K'}",
@@ -103,7 +103,7 @@ pub(crate) const JSON_ROWS: [(&str, &str); 54] = [
         "'Status':1,'Expiration':{'Days':1},'Status':'Disabled'",
         "'Expiration':{'Days':1},'Filter':{'Prefix':''},'ID':'rule-1','Status':'Disabled'",
     ),
-    // Fields that an object has not: the first by its bytes, before all else of the object.
+    // Unknown fields: the first in byte order, before anything else of the object.
     (
         "'Status':'Enabled','zz':0,'ID':1,'Zone':0",
         "UnknownField Zone",
@@ -166,7 +166,7 @@ pub(crate) const FIELD_ROWS: [(&str, &str); 69] = [
         ",'AbortIncompleteMultipartUpload':7",
         "WrongShape AbortIncompleteMultipartUpload",
     ),
-    // Each field is tried whole before the next, and each rule before the next.
+    // Each field is checked whole before the next, and each rule before the next.
     ("'Prefix':1,'Status':1", "WrongShape Status"),
     (",'Filter':{'x':1},'Prefix':1", "WrongShape Prefix"),
     (",'Expiration':7,'Filter':{'x':1}", "UnknownField x"),
@@ -191,7 +191,8 @@ pub(crate) const FIELD_ROWS: [(&str, &str); 69] = [
         "WrongShape AbortIncompleteMultipartUpload",
     ),
     (",'Prefix':''},{'Status':1", "WrongShape Status"),
-    // Filters: a choice is told of before the fields, and both spellings of a prefix at the filter's turn.
+    // Filters: the choice of an operand is reported before its fields, and both spellings of a prefix at the filter's
+    // turn.
     (",'Filter':{'Prefix':1,'Tag':1}", "WrongShape Filter"),
     (
         ",'Filter':{'And':7,'ObjectSizeLessThan':'5'}",
@@ -234,7 +235,7 @@ pub(crate) const FIELD_ROWS: [(&str, &str); 69] = [
         ",'Filter':{'ObjectSizeLessThan':18446744073709551616}",
         "WrongShape ObjectSizeLessThan",
     ),
-    // Expirations, transitions and aborts: what is needed, and the ranges of numbers.
+    // Expirations, transitions and aborts: required fields, and the ranges of numbers.
     (
         ",'Expiration':{'Date':'2024-01-01T10:00:00Z','Days':4294967296}",
         "WrongShape Days",

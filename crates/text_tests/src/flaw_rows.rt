@@ -1,8 +1,8 @@
-// Rules that break a condition, with rules next to those, and their answers, as the tests write them.
+// Rules that break a condition, with rules close to them, and their answers, as the tests write them.
 
 // Ids, actions and ranges of numbers (S3 User Guide, "Lifecycle configuration elements").
 pub(crate) const RANGE_ROWS: [(&str, &str); 47] = [
-    // Ids are filled in before two of them are compared; they differ by case.
+    // Ids are filled in before they are compared; they differ by case.
     (
         ",'Expiration':{'Days':1}},{'ID':'rule-1','Status':'Disabled'",
         "DoubleId 2",
@@ -205,7 +205,7 @@ pub(crate) const RANGE_ROWS: [(&str, &str); 47] = [
     ),
 ];
 
-// When objects go where, and which flaw comes first (S3 User Guide, "Transitioning objects using Amazon S3
+// When objects move or expire, and which flaw comes first (S3 User Guide, "Transitioning objects using Amazon S3
 // Lifecycle").
 pub(crate) const ORDER_ROWS: [(&str, &str); 51] = [
     // When objects are moved, and when they expire.
@@ -379,7 +379,7 @@ pub(crate) const ORDER_ROWS: [(&str, &str); 51] = [
         ",'Expiration':{'Days':1,'Date':'2024-01-01'}",
         "BadExpiration 1",
     ),
-    // Two flaws of one rule, and flaws of two rules: the first counts.
+    // Two flaws of one rule, and flaws of two rules: the first one counts.
     (
         ",'Expiration':{'Days':1}},{'ID':'rule-1','Status':'Enabled'",
         "DoubleId 2",

@@ -18,7 +18,7 @@ fn joined(rt: &impl Abort, alloc: Global, front: &str, back: &str) -> String {
     format!(in alloc; "{front}{back}").expect(rt, "memory")
 }
 
-// A text, and the tags behind it.
+// A text, and the tags after it.
 fn with_tags(rt: &impl Abort, mut text: String, tags: &Tags) -> String {
     for (key, value) in tags.pairs() {
         for part in &[" ", key.as_str(), "=", value.as_str()] {
@@ -122,7 +122,7 @@ const PUTS: [(&str, &str); 53] = [
         "{\"size\":1,\"tags\":{\"a\":\"x\",\"a\":\"y\"}}",
         "1 STANDARD a=y",
     ),
-    // No JSON object.
+    // Not a JSON object.
     ("[]", "BadBody "),
     ("null", "BadBody "),
     ("7", "BadBody "),
@@ -135,13 +135,13 @@ const PUTS: [(&str, &str); 53] = [
     ("{\"size\":1e400}", "BadBody "),
     ("{size:1}", "BadBody "),
     ("\u{feff}{\"size\":1}", "BadBody "),
-    // A field that is none of the three, the first by its bytes, before the others are looked at.
+    // A field that is none of the three: the first in byte order, before the others are looked at.
     ("{\"size\":1,\"b\":0,\"a\":0}", "BadBody a"),
     ("{\"a\":0}", "BadBody a"),
     ("{\"size\":1,\"Size\":1}", "BadBody Size"),
     ("{\"size\":\"1\",\"zone\":null,\"tags\":7}", "BadBody zone"),
     ("{\"size\":1,\"\":2}", "BadBody "),
-    // The size is missing or no whole number.
+    // The size is missing or not a whole number.
     ("", "BadBody size"),
     ("{}", "BadBody size"),
     ("{\"class\":1,\"tags\":2}", "BadBody size"),
@@ -227,7 +227,7 @@ fn tags_of_versions(rt: HostRuntime) {
 
 const PARTS: [(&str, &str); 7] = [
     ("{\"size\":0}", "0"),
-    // A part's range is not asked here.
+    // The range of a part's size is not checked here.
     ("{\"size\":18446744073709551615}", "18446744073709551615"),
     ("{\"size\":18446744073709551616}", "BadBody size"),
     ("{\"size\":\"1\"}", "BadBody size"),

@@ -35,7 +35,7 @@ fn reply_of(rt: &impl Abort, alloc: Global, status: &str, media: &str, body: &st
     ).expect(rt, "memory")
 }
 
-// What is printed into a room of 16,384 bytes.
+// The reply as printed into a room of 16,384 bytes.
 fn printed(rt: &impl Abort, alloc: Global, answer: &Result<Reply, Refusal>) -> Vec<u8>
     requires { AnswerFits answer.now }
 {
@@ -107,7 +107,7 @@ fn short_refusals(rt: HostRuntime) {
     }
 }
 
-// What an action is done to: a version, 0 for the null version, or an upload.
+// The target of an action: a version, 0 for the null version, or an upload.
 #[derive(Clone, Copy)]
 enum On {
     Version(u64),
@@ -121,7 +121,7 @@ fn target(on: On) -> Target {
     }
 }
 
-// A refusal that tells more than its name.
+// A refusal that has more than its name.
 #[derive(Clone, Copy)]
 enum More {
     MonthNotOver,
@@ -371,7 +371,7 @@ fn chosen(
     }
 }
 
-// The kind of an action, its key, what it is done to, its rule, the delete marker that it put, and the body.
+// The kind of an action, its key, its target, its rule, the delete marker that it put, and the body.
 const ACTIONS: [(ActionKind, &[u8], On, &str, Option<u64>, &str); 5] = [
     (
         ActionKind::Remove,
@@ -440,7 +440,7 @@ fn the_longest_action(rt: HostRuntime) {
     let target = Target::Version(id(18_446_744_073_709_551_615));
     let key = key(&rt, alloc, &LONGEST_KEY);
     let reply = chosen(&rt, alloc, kind, key, target, rule, None);
-    // 1,024 and 255 bytes of six characters each, and what stands between them.
+    // 1,024 and 255 bytes, each escaped as six characters, and the text between them.
     assert_eq!(rt; printed(&rt, alloc, &Ok(reply)).len(), 7_881);
 }
 
@@ -493,7 +493,7 @@ fn a_short_room(rt: HostRuntime) {
     assert_eq!(rt; &room[..4], b"HTTP".as_slice());
 }
 
-// What is printed into memory of its own.
+// Checks the reply that is printed into memory of its own.
 fn is_kept(rt: &impl Abort, alloc: Global, answer: &Result<Reply, Refusal>, media: &str, body: &str)
     requires { AnswerFits answer.now }
 {
@@ -502,7 +502,7 @@ fn is_kept(rt: &impl Abort, alloc: Global, answer: &Result<Reply, Refusal>, medi
     assert_eq!(rt; text.as_slice(), wanted.as_bytes(), "{body}");
 }
 
-// An object with two tags, which were given out of order, of the second day of 2024.
+// An object with two tags, given out of order, of the second day of 2024.
 fn object(rt: &impl Abort, alloc: Global) -> Version {
     let second = moment(rt, 1_704_153_600_000);
     Version {
@@ -518,7 +518,7 @@ fn object(rt: &impl Abort, alloc: Global) -> Version {
     }
 }
 
-// The object over a delete marker, which ceased to be the current version when the object was put.
+// The object above a delete marker, which ceased to be current when the object was put.
 fn two_versions(rt: &impl Abort, alloc: Global) -> Stack {
     let marker = Version {
         id: VersionId::Null,
@@ -545,7 +545,7 @@ fn the_versions_of_a_key(rt: HostRuntime) {
     is_kept(&rt, rt.alloc(), &shown, JSON, VERSIONS);
 }
 
-// Parts 1 and 3, of which the later one was put first.
+// Parts 1 and 3; part 3 was put first.
 fn two_parts(rt: &impl Abort, alloc: Global) -> BTreeMap<u32, Part> {
     let put = moment(rt, 1_704_067_200_000);
     let mut parts = BTreeMap::new(alloc);
@@ -581,7 +581,7 @@ const STORAGE: [u32; 6] = [23_000, 12_500, 10_000, 4_000, 3_600, 990];
 
 const TRANSITION: [u32; 5] = [10, 11, 20, 30, 50];
 
-// Of the first tariff one price a class, of the second one tiers, from a later month on.
+// The first tariff has one price a class; the second has tiers, and begins in a later month.
 const PRICES: &str = "{\"tariffs\":[{\"from\":\"1970-01\",\
 \"storage\":{\"DEEP_ARCHIVE\":990,\"GLACIER\":3600,\"GLACIER_IR\":4000,\"ONEZONE_IA\":10000,\
 \"STANDARD\":23000,\"STANDARD_IA\":12500},\"transition\":{\"DEEP_ARCHIVE\":50,\"GLACIER\":30,\"GLACIER_IR\":20,\
@@ -635,7 +635,7 @@ fn a_configuration(rt: HostRuntime) {
     is_kept(&rt, rt.alloc(), &shown, JSON, CONFIGURATION);
 }
 
-// Of January 2024 a line of STANDARD.
+// A report of January 2024 with one line of STANDARD.
 fn january(rt: &impl Abort, alloc: Global, quantity: u128, price: Price, charge: u128) -> Reply
     requires { charge < 2 ^ 64 }
     ensures { ReplyFits result }

@@ -34,7 +34,7 @@ fn named(rt: &impl Abort, alloc: Global, kind: &str, name: &str) -> String {
     format!(in alloc; "{kind} {name}").expect(rt, "memory")
 }
 
-// A text in a frame; in all three ' stands for ".
+// A text in a frame; in all three, ' is written for ".
 fn framed(rt: &impl Abort, alloc: Global, head: &str, quoted: &str, tail: &str) -> String {
     let mut text = String::new(alloc);
     for part in &[head, quoted, tail] {
@@ -46,8 +46,8 @@ fn framed(rt: &impl Abort, alloc: Global, head: &str, quoted: &str, tail: &str) 
     text
 }
 
-// The document of a row: a text that begins with ' has the fields of a rule, one that begins with a comma has those
-// behind the status of an enabled rule.
+// The document of a row. A text that begins with ' has the fields of a rule. One that begins with a comma has the
+// fields after the status of an enabled rule.
 fn document(rt: &impl Abort, alloc: Global, row: &str) -> String {
     let (head, tail) = match row.as_bytes() {
         [b'\'', ..] => ("{'Rules':[{", "}]}"),
@@ -57,7 +57,7 @@ fn document(rt: &impl Abort, alloc: Global, row: &str) -> String {
     framed(rt, alloc, head, row, tail)
 }
 
-// The answer of a row: a text that begins with ' has the fields of a rule as they are printed.
+// The answer of a row. A text that begins with ' has the fields of a rule as they are printed.
 fn answer(rt: &impl Abort, alloc: Global, row: &str) -> String {
     let (head, tail) = match row.as_bytes() {
         [b'\'', ..] => (
@@ -108,7 +108,7 @@ fn spellings(rt: HostRuntime) {
     are_answered(&rt, rt.alloc(), &SPELLING_ROWS);
 }
 
-// A document with a part that stands so many times behind the head, and another so many times before the tail; and its
+// A document with a part repeated this often after the head, and another repeated as often before the tail; and its
 // answer.
 const LONG_ROWS: [(&str, &str, &str, usize, &str, &str); 22] = [
     // Lists within lists.
@@ -158,12 +158,12 @@ const LONG_ROWS: [(&str, &str, &str, usize, &str, &str); 22] = [
         "{'Status':7}]}",
         "WrongShape Status",
     ),
-    // Ids in characters, and a flaw that comes later where there are 255.
+    // Ids, counted in characters. With 255 characters, a later flaw is reported.
     (",'ID':'", "a", "", 255, "'", "NoAction 1"),
     (",'ID':'", "a", "", 256, "'", "LongId 1"),
     (",'ID':'", "é", "", 255, "'", "NoAction 1"),
     (",'ID':'", "é", "", 256, "'", "LongId 1"),
-    // Prefixes in bytes.
+    // Prefixes, counted in bytes.
     (
         ",'Expiration':{'Days':0},'Prefix':'",
         "a",
@@ -196,7 +196,7 @@ const LONG_ROWS: [(&str, &str, &str, usize, &str, &str); 22] = [
         "'}",
         "BadFilter 1",
     ),
-    // Keys and values of tags in characters, and how many tags there are.
+    // Keys and values of tags, counted in characters, and the number of tags.
     (
         ",'Expiration':{'Days':0},'Filter':{'Tag':{'Value':'','Key':'",
         "é",
