@@ -8,7 +8,7 @@ use std::test::Fail;
 
 const NEXT: &str = "GET /buckets/next HTTP/1.1\r\n\r\n";
 
-// Hears one message, writes what it means, and tells whether no other is heard after it.
+// Hears one message, writes what it means, and returns whether no other message is heard after it.
 fn hear(
     alloc: Global,
     reader: &mut Reader,
@@ -55,13 +55,13 @@ fn token_of(heard: &Result<Heard, MessageStop>) -> Option<&Token> {
     }
 }
 
-// What is written behind the meaning of a message.
+// What is written after the meaning of a message.
 fn after(is_last: bool) -> &'static str {
     if is_last { " last" } else { "; " }
 }
 
-// What is heard of bytes in reads of at most so many, of which some fail: one message after another, up to the end or
-// the last message of the session, and four at most.
+// What is heard of bytes in reads of at most `cut` bytes, some of which fail. Messages are heard one after another, up
+// to the end or the last message of the session, and at most four.
 fn heard(alloc: Global, bytes: &[u8], cut: usize, failing: &[u64]) -> Result<String, Fail> {
     let mut source = MemorySource::new(bytes.to_vec(alloc)?, cut, failing.to_vec(alloc)?);
     let mut reader = Reader::new(alloc)?;
@@ -74,7 +74,7 @@ fn heard(alloc: Global, bytes: &[u8], cut: usize, failing: &[u64]) -> Result<Str
     Ok(text)
 }
 
-// What is heard of a stream, in reads of each of these lengths.
+// Checks what is heard of a stream, in reads of each of these lengths.
 fn assert_heard(
     rt: &impl Abort,
     alloc: Global,
@@ -96,7 +96,7 @@ const CUTS: &[usize] = &[1, 65_536];
 // User Guide for names, keys, sizes, classes and tags.
 type Row = (&'static str, &'static str, &'static str);
 
-// What is heard of the request of each row, with the next one behind it.
+// Checks what is heard of the request of each row, with the next one after it.
 fn assert_requests(rt: &impl Abort, alloc: Global, rows: &[Row]) -> Result<(), Fail> {
     for (start, body, meaning) in rows {
         let stream = format!(in alloc;
@@ -113,7 +113,7 @@ const BUCKETS: &[Row] = &[
     ("PUT /buckets/logs", "", "CreateBucket logs"),
     ("GET /buckets/logs", "", "Bucket logs"),
     ("PUT /buckets/my.log-2", "", "CreateBucket my.log-2"),
-    // A body is passed over.
+    // A body is ignored.
     ("PUT /buckets/logs", "{\"size\":1}", "CreateBucket logs"),
     ("GET /buckets/logs", "no JSON", "Bucket logs"),
     ("PUT /buckets/lo", "", "BadBucketName"),
@@ -158,7 +158,7 @@ const LIFECYCLES: &[Row] = &[
     ("DELETE /buckets/logs/lifecycle", "", "DropRules logs"),
     ("GET /buckets/lo/lifecycle", "", "BadBucketName"),
     ("DELETE /buckets/lo/lifecycle", "", "BadBucketName"),
-    // The body goes as it stands to the reader of configurations, an empty one too.
+    // The body goes unchanged to the reader of configurations, even if it is empty.
     ("PUT /buckets/logs/lifecycle", "", "NotJson"),
     ("PUT /buckets/lo/lifecycle", "", "BadBucketName"),
     ("PUT /buckets/logs/lifecycle", "[]", "WrongShape "),
@@ -231,7 +231,7 @@ const OBJECTS: &[Row] = &[
         "Put logs a//b 5 STANDARD",
     ),
     ("PUT /buckets/logs/objects/%ff", "{\"size\":5}", "BadKey"),
-    // A bad name comes before a bad key, and that before a bad body.
+    // A bad name is reported before a bad key, and a bad key before a bad body.
     ("PUT /buckets/lo/objects/%ff", "[]", "BadBucketName"),
     ("PUT /buckets/logs/objects/%ff", "[]", "BadKey"),
     ("PUT /buckets/logs/objects/a", "[]", "BadBody "),
@@ -288,7 +288,7 @@ const VERSIONS: &[Row] = &[
     ("DELETE /buckets/logs/versions/0/a", "", "NoSuchVersion"),
     ("DELETE /buckets/logs/versions/01/a", "", "NoSuchVersion"),
     ("DELETE /buckets/logs/versions/+1/a", "", "NoSuchVersion"),
-    // The parts go from left to right: the name, the id, the key.
+    // The parts are checked from left to right: the name, the id, the key.
     ("DELETE /buckets/lo/versions/01/%ff", "", "BadBucketName"),
     ("DELETE /buckets/logs/versions/01/%ff", "", "NoSuchVersion"),
     ("DELETE /buckets/logs/versions/1/%ff", "", "BadKey"),
@@ -365,7 +365,7 @@ const UPLOADS: &[Row] = &[
     ),
     ("PUT /buckets/logs/parts/7/+1", "{\"size\":0}", "BadPart"),
     ("PUT /buckets/logs/parts/7/1a", "{\"size\":0}", "BadPart"),
-    // The parts go from left to right: the name, the upload, the part; then the body.
+    // The parts are checked from left to right: the name, the upload, the part; then the body.
     ("PUT /buckets/lo/parts/0/x", "[]", "BadBucketName"),
     ("PUT /buckets/logs/parts/0/x", "[]", "NoSuchUpload"),
     ("PUT /buckets/logs/parts/7/x", "[]", "BadPart"),
@@ -420,7 +420,7 @@ const MONTHS: &[Row] = &[
     ("PUT /tariff", "from = \"2024-13\"\n", "BadFrom"),
     ("GET /tariff", "", "Tariff"),
     ("GET /tariff", "[", "Tariff"),
-    // The body goes as it stands to the reader of tariffs, an empty one too.
+    // The body goes unchanged to the reader of tariffs, even if it is empty.
     ("PUT /tariff", "{\"storage\":{}}", "NotToml"),
     ("PUT /tariff", "", "MissingClass STANDARD in storage"),
     (
@@ -443,7 +443,7 @@ const MONTHS: &[Row] = &[
 ];
 
 const NOT_SERVED: &[Row] = &[
-    // The method comes before the parts of the path, and the body is read and passed over.
+    // The method is checked before the parts of the path; the body is read and ignored.
     ("put /buckets/logs", "", "BadMethod"),
     ("Get /buckets/logs", "", "BadMethod"),
     ("put /buckets/lo", "", "BadMethod"),
@@ -519,7 +519,7 @@ const ENDINGS: &[(&str, &str)] = &[
     ),
     ("G(T", "BadHead last"),
     ("PUT /buckets\x01", "BadHead last"),
-    // Behind a message nothing may stand but another one.
+    // Only another message may come after a message.
     (
         "GET /buckets/logs HTTP/1.1\r\n\r\n\r\n",
         "Bucket logs; CutShort last",
@@ -619,7 +619,7 @@ const TOKENS: &[Row] = &[
         "",
         "BadToken",
     ),
-    // Rules, acts and prices carry none; a token that is none comes first.
+    // Rules, acts and prices carry no token; an invalid token is reported first.
     (
         "PUT /buckets/logs/lifecycle HTTP/1.1\r\nOffice-Token: t1",
         "{\"Rules\":[]}",
@@ -645,7 +645,7 @@ const TOKENS: &[Row] = &[
         "",
         "BadToken",
     ),
-    // The field is looked at where there is a command alone.
+    // Only with a command is the field looked at.
     (
         "GET /buckets/logs HTTP/1.1\r\nOffice-Token: t 1",
         "",
@@ -688,7 +688,7 @@ fn requests_with_a_token(rt: HostRuntime) -> Result<(), Fail> {
     Ok(())
 }
 
-// The head of a request for a target of so many letters.
+// The head of a request for a target of this many letters.
 fn long_target(alloc: Global, letters: usize) -> Result<String, Fail> {
     let mut stream = String::new(alloc);
     stream.push_str("GET /")?;
@@ -703,7 +703,7 @@ fn a_head_has_at_most_so_many_bytes(rt: HostRuntime) -> Result<(), Fail> {
     let alloc = rt.alloc();
     let mut stream = long_target(alloc, 8_187)?;
     assert_heard(&rt, alloc, &stream, &[500, 65_536], "HeadTooLarge last")?;
-    // A bad byte behind them changes nothing.
+    // A bad byte after them changes nothing.
     stream.push('\x01')?;
     assert_heard(&rt, alloc, &stream, &[500, 65_536], "HeadTooLarge last")?;
     stream = long_target(alloc, 8_186)?;

@@ -213,7 +213,7 @@ fn targets(rt: HostRuntime) -> Result<(), Fail> {
     Ok(())
 }
 
-// Parts of targets, and the keys that they are.
+// Parts of targets, and the keys that they spell.
 const KEYS: &[(&str, &str)] = &[
     ("a", "a"),
     ("b%2Fc", "b/c"),

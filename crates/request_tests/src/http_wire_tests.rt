@@ -55,7 +55,7 @@ fn heads_are_read_by_their_grammar(rt: HostRuntime) {
     }
 }
 
-// Whether one read into a room of so many bytes, at most eight, gives these, or fails where there are none.
+// Whether one read into a room of `size` bytes, at most eight, gives these bytes, or fails if there are none.
 fn gives(source: &mut MemorySource, size: usize, wanted: Option<&[u8]>) -> bool {
     let mut room = [0u8; 8];
     let room = &mut room[..size.min(8)];
@@ -65,7 +65,7 @@ fn gives(source: &mut MemorySource, size: usize, wanted: Option<&[u8]>) -> bool 
     }
 }
 
-// The sizes of rooms, and what is read into them one after another, in pieces of 4 bytes where the second read fails.
+// The sizes of rooms, and what is read into them one after another. Pieces have 4 bytes, and the second read fails.
 const PIECES: &[(usize, Option<&[u8]>)] = &[
     (8, Some(b"abcd")),
     (8, None),
@@ -81,7 +81,7 @@ fn bytes_come_in_pieces_and_fail_where_chosen(rt: HostRuntime) -> Result<(), Fai
     for (size, wanted) in PIECES {
         assert!(rt; gives(&mut source, *size, *wanted), "{wanted:?}");
     }
-    // A piece has one byte at least.
+    // A piece has at least one byte.
     let mut slow = MemorySource::new(b"ab".to_vec(alloc)?, 0, Vec::new(alloc));
     assert!(rt; gives(&mut slow, 8, Some(b"a")));
     Ok(())
@@ -95,7 +95,7 @@ enum Seen<'a> {
     ReadFault,
 }
 
-/// Whether the message is the one that is wanted.
+/// Whether the message is the expected one.
 fn is_message(message: &Message, buffer: &Buffer, wanted: &Seen<'_>) -> bool
     requires { message.now.used ≤ length buffer.now.bytes }
 {
@@ -105,7 +105,7 @@ fn is_message(message: &Message, buffer: &Buffer, wanted: &Seen<'_>) -> bool
     }
 }
 
-/// Whether the message behind those read is the one that is wanted.
+/// Whether the message after those already read is the expected one.
 fn reads_one(
     alloc: Global,
     source: &mut MemorySource,
@@ -344,7 +344,7 @@ const LONG: &[(&[u8], usize)] = &[
     ),
 ];
 
-// A body of so many bytes.
+// A body of this many bytes.
 fn body_of(alloc: Global, length: usize) -> Result<Vec<u8>, Fail> {
     let mut body = Vec::new(alloc);
     for n in 0..length {
@@ -353,7 +353,7 @@ fn body_of(alloc: Global, length: usize) -> Result<Vec<u8>, Fail> {
     Ok(body)
 }
 
-// A message with this head and body, and another behind it.
+// A message with this head and body, and another message after it.
 fn stream_of(alloc: Global, head: &[u8], body: &[u8]) -> Result<Vec<u8>, Fail> {
     let mut stream = head.to_vec(alloc)?;
     stream.extend_from_slice(body)?;

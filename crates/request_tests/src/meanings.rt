@@ -22,7 +22,7 @@ pub(crate) enum Word<'a> {
     Id(VersionId),
     Number(u64),
     Size(Size),
-    // How many rules.
+    // The number of rules.
     Rules(&'a RuleSet),
     Tags(&'a Tags),
     Prices(&'a Tariff),
@@ -31,7 +31,7 @@ pub(crate) enum Word<'a> {
     Nothing,
 }
 
-// What a message means: a name, and the words behind it.
+// What a message means: a name, and the words after it.
 pub(crate) type Meaning<'a> = (&'static str, [Word<'a>; 5]);
 
 pub(crate) const NO: Word<'static> = Word::Nothing;
@@ -263,7 +263,7 @@ fn meant_by_framing(refusal: &FramingRefusal) -> Meaning<'_> {
     }
 }
 
-// The name of a refusal, and what it holds.
+// The name of a refusal, and its details.
 pub(crate) fn meant_by_bad(bad: &Bad) -> Meaning<'_> {
     match bad {
         Bad::Framing(refusal) => meant_by_framing(refusal),
@@ -290,7 +290,7 @@ fn key_text(key: &Key) -> &str {
     }
 }
 
-// The text of a word that is one.
+// The text of a word, if it is a text.
 fn text_of<'a>(word: &Word<'a>) -> Option<&'a str> {
     match word {
         Word::Text(text) => Some(*text),
@@ -305,7 +305,7 @@ fn text_of<'a>(word: &Word<'a>) -> Option<&'a str> {
     }
 }
 
-// The number of a word that is one.
+// The number of a word, if it is a number.
 fn number_of(word: &Word<'_>) -> Option<u64> {
     match word {
         Word::Id(VersionId::Number(number)) => Some(number.get()),

@@ -10,7 +10,7 @@ const ROWS: [(&[Shape], u32); 5] = [
     (&[Word("c"), Segment, Word("d"), Segment], 5),
 ];
 
-// Paths, with the value and the parts that they have.
+// Paths, with the value and the parts that the table gives for them.
 const PATHS: &[(&str, Option<(u32, &str, &str)>)] = &[
     ("", Some((1, "", ""))),
     ("/a", Some((2, "", ""))),
@@ -31,7 +31,7 @@ const PATHS: &[(&str, Option<(u32, &str, &str)>)] = &[
     ("/d", None),
 ];
 
-// The value and the two parts that a path has.
+// The value and the two parts that the table gives for a path.
 fn found_at<'a>(table: &'a Table<u32>, path: &'a str) -> Option<(u32, &'a str, &'a str)> {
     let found = table.find(path)?;
     Some((*found.value, found.parts.at(0), found.parts.at(1)))
