@@ -12,7 +12,7 @@ enum Step {
     Sync,
 }
 
-// Whether the disk does the call.
+// Whether the disk's call succeeds.
 fn does<D: Disk>(disk: &mut D, file: FileNo, step: Step) -> bool {
     match step {
         Step::Write(bytes) => disk.write_at(file, 0, bytes).is_ok(),
@@ -21,7 +21,7 @@ fn does<D: Disk>(disk: &mut D, file: FileNo, step: Step) -> bool {
     }
 }
 
-// A disk of which no call fails, after these calls.
+// A disk after these calls. None of its calls fails.
 fn disk_after(alloc: Global, file: FileNo, steps: &[Step]) -> Result<MemoryDisk, Fail> {
     let mut disk = MemoryDisk::new(alloc, Vec::new(alloc));
     for step in steps {
@@ -41,7 +41,7 @@ fn holds<D: Disk>(disk: &mut D, want: [u8; 3]) -> Result<bool, Failed> {
     Ok(room == want)
 }
 
-// Calls of a disk of which the second and the fourth fail: whether each is done, and the count of faults then.
+// Calls of a disk whose second and fourth calls fail: whether each call succeeds, and the count of faults after it.
 const NUMBERED: &[(Step, bool, u64)] = &[
     (Step::Write(&[1, 2, 3]), true, 0),
     (Step::Sync, false, 1),
@@ -96,8 +96,8 @@ fn a_disk_tells_its_block(rt: HostRuntime) -> Result<(), Fail> {
     Ok(())
 }
 
-// After so many calls a file has as many images. Lengths 0; 0 and 3; 3; 3 and 3; 0, 3 and 3: of n bytes there are
-// n + 1 places, and 9 pairs of fillings at each.
+// A number of calls, and how many images a file has after them. Lengths 0; 0 and 3; 3; 3 and 3; 0, 3 and 3: for n bytes
+// there are n + 1 places, with 9 pairs of fillings at each.
 const CHOICES: &[(u64, usize)] = &[(0, 9), (1, 45), (2, 36), (3, 72), (4, 81), (9, 81)];
 
 #[test]
@@ -127,7 +127,7 @@ fn are_all(images: &[Vec<u8>], want: &[u8]) -> bool {
     images.iter().all(|image| image.as_slice() == want)
 }
 
-// After so many calls, an image, and whether the file has it.
+// A number of calls, an image, and whether the file has it after them.
 const IMAGES: &[(u64, &[u8], bool)] = &[
     (3, &[1, 2, 3], true),
     (3, &[1, 5, 3], true),
@@ -180,7 +180,7 @@ fn a_synced_file_has_one_image(rt: HostRuntime) -> Result<(), Fail> {
     Ok(())
 }
 
-// Whether each image whose first byte is 9 holds the bytes behind it that were written.
+// Whether each image whose first byte is 9 also has the bytes written after it.
 fn first_tells(images: &[Vec<u8>]) -> bool {
     images.iter().all(|image| !image.starts_with(&[9])
         || image.as_slice() == [9, 2, 3, 4, 5].as_slice())

@@ -59,13 +59,13 @@ const NO_TOKEN: &[u8] = &[
     0x8C, 0xC2, 0x51, 0xF4, 0x00, 0x81, 0, 0, 4, 0x6C, 0x6F, 0x67, 0x73, 0,
 ];
 
-// The length says one byte more than there is.
+// The length is one byte greater than what there is.
 const LONG: &[u8] = &[
     0xA5, 0x4D, 0x45, 0x54, 0x45, 0x52, 0x4A, 0x52, 0x4E, 0x31, 0xA5, 0, 0, 0, 16, 0, 0, 0x01,
     0x8C, 0xC2, 0x51, 0xF4, 0x00, 0x01, 0, 4, 0x6C, 0x6F, 0x67, 0x73, 0,
 ];
 
-// The length says 3,000,000,000 bytes.
+// The length is 3,000,000,000 bytes.
 const HUGE: &[u8] = &[
     0xA5, 0x4D, 0x45, 0x54, 0x45, 0x52, 0x4A, 0x52, 0x4E, 0x31, 0xA5, 0xB2, 0xD0, 0x5E, 0, 0, 0,
     0x01, 0x8C, 0xC2, 0x51, 0xF4, 0x00, 0x01, 0, 4, 0x6C, 0x6F, 0x67, 0x73, 0,
@@ -79,7 +79,7 @@ const FOREIGN: &[u8] = &[
     0x37, 0x4D, 0x45, 0x54, 0x45, 0x52, 0x4A, 0x52, 0x4E, 0x31, 0, 0,
 ];
 
-// A journal without entries, which was read.
+// A journal without entries, already read.
 fn empty_journal<D: Disk + Drop>(
     alloc: Global,
     disk: D,
@@ -159,7 +159,7 @@ fn file_of(alloc: Global, bytes: &[u8]) -> Result<MemoryDisk, Fail> {
     Ok(disk)
 }
 
-// Adds the entry to an empty journal with a limit, on a disk with a block, and tells the answer and the file.
+// Adds the entry to an empty journal with a limit, on a disk with a block, and returns the answer and the file.
 fn added(alloc: Global, block: u64, limit: u64) -> Result<(Result<u64, AppendFault>, Vec<u8>), Fail>
     requires block { block ≤ 4096 }
     requires limit { limit ≤ 2 ^ 45 }
@@ -174,12 +174,12 @@ fn added(alloc: Global, block: u64, limit: u64) -> Result<(Result<u64, AppendFau
     Ok((answer, kept))
 }
 
-// The block and the limit, the answer, and the file then.
+// The block and the limit, the answer, and the file afterwards.
 const ADDED: &[(u64, u64, Result<u64, AppendFault>, &[u8])] = &[
     (0, 30, Err(AppendFault::JournalFull), EMPTY),
     (0, 31, Ok(30), ONE),
     (20, 40, Ok(30), GROWN),
-    // The first gate and the next one stand in one block; the file would be longer than the limit.
+    // The first gate and the next one are in one block; the file would be longer than the limit.
     (31, 40, Ok(30), ONE),
     (20, 39, Ok(30), ONE),
 ];
@@ -200,7 +200,7 @@ fn an_entry_is_added_within_the_limit_and_the_file_grows_by_blocks(
     Ok(())
 }
 
-// Adds the entry on a disk that fails at a call, opens the journal again, and adds the entry once more. Tells whether
+// Adds the entry on a disk that fails at a call, opens the journal again, and adds the entry once more. Returns whether
 // the first one was there, the answer to the second, and the file.
 fn added_again(
     alloc: Global,
@@ -220,8 +220,8 @@ fn added_again(
     Ok((found, answer, kept))
 }
 
-// The call that fails, whether the entry is there then, the answer to the second, and the file. Of the calls of the
-// disk, 18 is the first sync of the entry and 20 the second, with the gate open between them.
+// The call that fails, whether the entry is there afterwards, the answer to the second, and the file. Of the disk's
+// calls, 18 is the first sync of the entry and 20 the second. The gate is opened between them.
 const FAILED: &[(u64, bool, Result<u64, AppendFault>, &[u8])] = &[
     (18, false, Ok(30), ONE),
     (20, true, Ok(50), TWO),
@@ -251,7 +251,7 @@ fn is_t1(token: &Option<Token>) -> bool {
     }
 }
 
-// Whether an entry makes the bucket logs, with the token t1 or without one.
+// Whether an entry makes the bucket logs, with or without the token t1.
 #[derive(Clone, Copy, Debug, PartialEq, Eq)]
 enum Told {
     Logs,
@@ -272,7 +272,7 @@ fn told_by(entry: &Entry) -> Told {
     Told::Other
 }
 
-// What the frame at a gate says: its moment, what its entry does, and the next gate; none where the gate is closed.
+// What the frame at a gate holds: its moment, what its entry does, and the next gate; none if the gate is closed.
 fn told_at(alloc: Global, file: &[u8], gate: u64) -> Result<Option<(u64, Told, u64)>, OpenFault> {
     match frame(alloc, file, gate) {
         Ok(Some((entry, next))) => Ok(Some((entry.moment.ms(), told_by(&entry), next))),
@@ -291,7 +291,7 @@ const HEADS: &[(&[u8], Result<(), OpenFault>)] = &[
 
 const DAMAGED: OpenFault = OpenFault::Damaged { offset: 10 };
 
-// A file, a gate, and what the frame there says.
+// A file, a gate, and the frame there.
 const FRAMES: &[(&[u8], u64, Result<Option<(u64, Told, u64)>, OpenFault>)] = &[
     (ONE, 10, Ok(Some((1_704_067_200_000, Told::Logs, 30)))),
     (ONE, 30, Ok(None)),
@@ -325,7 +325,7 @@ fn a_file_is_what_its_bytes_say(rt: HostRuntime) -> Result<(), Fail> {
     Ok(())
 }
 
-// A file, what making it answers, and the file then.
+// A file, what making it answers, and the file afterwards.
 const MADE: &[(&[u8], Result<Made, OpenFault>, &[u8])] = &[
     (CLOSED, Ok(Made::Now), EMPTY),
     (ONE, Ok(Made::Before), ONE),

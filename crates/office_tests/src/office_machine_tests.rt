@@ -17,7 +17,7 @@ const NEW_YEAR: u64 = 1_704_067_200_000;
 
 const DAY: u64 = 86_400_000;
 
-// What an office is asked, of a bucket with this name.
+// What an office is asked about a bucket with this name.
 #[derive(Clone, Copy, Debug)]
 enum Wish<'a> {
     Make(&'a str),
@@ -28,7 +28,8 @@ enum Wish<'a> {
     Meters(&'a str, u16, u8),
 }
 
-// What was used of STANDARD and STANDARD_IA in byte-milliseconds, and the early quantity of the latter; nothing else.
+// What was used of STANDARD and STANDARD_IA in byte-milliseconds, and the early-deletion quantity of the latter;
+// nothing else was used.
 #[derive(Clone, Copy, Debug, PartialEq, Eq)]
 struct Used {
     standard: u128,
@@ -43,7 +44,7 @@ enum Heard {
     Stored,
     // Stored at another moment, in milliseconds.
     StoredAt(u64),
-    // How many versions.
+    // The number of versions.
     Shown(u32),
     Metered(Used),
     Exists,
@@ -62,7 +63,7 @@ fn month_of(year: u16, number: u8) -> Result<Month, Fail> {
     }
 }
 
-// An office to which few commands have led.
+// An office after a few commands.
 #[derive(Drop)]
 struct Tried {
     office: Office,
@@ -80,7 +81,7 @@ impl Model for Tried {
     ghost invariant = { λ t. t.office.records.accepted ≤ t.asked };
 }
 
-// As many tags, with different keys.
+// This many tags, with different keys.
 fn tags(alloc: Global, number: u64) -> Result<Tags, Fail> {
     let mut pairs = Vec::new(alloc);
     for n in 0..number {
@@ -92,7 +93,7 @@ fn tags(alloc: Global, number: u64) -> Result<Tags, Fail> {
     Ok(Tags::read(alloc, pairs)?)
 }
 
-// What is asked by a wish.
+// The ask for a wish.
 fn asked(alloc: Global, wish: Wish<'_>) -> Result<Ask, Fail> {
     match wish {
         Wish::Make(name) => Ok(Ask::Command(Command::CreateBucket {
@@ -127,7 +128,7 @@ impl Tried {
         }
     }
 
-    // Does what is wished, and gives what was answered.
+    // Does what is wished, and returns the answer.
     fn turn(
         &mut self,
         rt: &impl Abort,
@@ -156,7 +157,7 @@ impl Tried {
         self.office.apply(moment, None, command)
     }
 
-    // Asks for a command with a token: its reply is recalled, or the command is done.
+    // Asks for a command with a token. Its kept reply is given, or the command is done.
     fn ask_once(
         &mut self,
         rt: &impl Abort,
@@ -176,7 +177,7 @@ impl Tried {
         self.office.apply(moment, Some(token), command)
     }
 
-    // Does what is wished with a token, and gives what was answered.
+    // Does what is wished with a token, and returns the answer.
     fn turn_once(
         &mut self,
         rt: &impl Abort,
@@ -199,7 +200,7 @@ impl Tried {
         self.office.answer(moment, query)
     }
 
-    // The moment is not before the last one.
+    // Whether the moment is not before the last one.
     fn is_later(&self, moment: Moment) -> bool
         ensures { result ≡ is_not_before self.now.records.last moment }
     {
@@ -318,7 +319,7 @@ impl Used {
     }
 }
 
-// The moment, what is wished then, what is answered, and the moment of the last accepted command after it.
+// The moment, the wish, the answer, and the moment of the last accepted command afterwards.
 type Row = (u64, Wish<'static>, Heard, u64);
 
 fn assert_rows(rt: &impl Abort, alloc: Global, rows: &[Row]) -> Result<(), Fail> {
@@ -577,10 +578,10 @@ fn commands_and_queries(rt: HostRuntime) -> Result<(), Fail> {
     Ok(())
 }
 
-// The moment, the token, what is wished then, what is answered, and the moment of the last accepted command after it.
+// The moment, the token, the wish, the answer, and the moment of the last accepted command afterwards.
 type OnceRow = (u64, &'static str, Wish<'static>, Heard, u64);
 
-// A refused command keeps nothing; an accepted one is answered as it was, at any moment.
+// A refused command keeps no reply; an accepted one gets its first reply again, at any moment.
 const ONCE: &[OnceRow] = &[
     (5, "t1", Wish::Make("logs"), MADE, 5),
     (6, "t1", Wish::Make("logs"), MADE, 5),
@@ -655,7 +656,7 @@ fn fill_the_replies(rt: &impl Abort, alloc: Global, tried: &mut Tried) -> Result
     Ok(())
 }
 
-// A command with a token, and what is answered.
+// Whether a command with a token gets this answer.
 fn is_heard(
     rt: &impl Abort,
     alloc: Global,
@@ -717,7 +718,7 @@ fn archiving(alloc: Global) -> Result<Command, Fail> {
     }
 }
 
-// A thousand objects wait for the rule, whenever each comes due.
+// A thousand objects wait for the rule, whenever each of them is due.
 #[test]
 fn a_thousand_queued(rt: HostRuntime) -> Result<(), Fail> {
     let alloc = rt.alloc();
