@@ -35,7 +35,7 @@ const LATE: &[u8] = &[
     0xBB, 0x2C, 0xC3, 0xD7, 0xFF, 0x01, 0, 4, 0x6C, 0x6F, 0x67, 0x73, 0,
 ];
 
-// The frame of the bucket data, made at J0, behind its gate, with the next gate.
+// The frame of the bucket data, made at J0, after its gate, with the next gate.
 const DATA_FRAME: &[u8] = &[
     0, 0, 0, 15, 0, 0, 0x01, 0x8C, 0xC2, 0x51, 0xF4, 0x00, 0x01, 0, 4, 0x64, 0x61, 0x74, 0x61, 0,
 ];
@@ -52,17 +52,17 @@ fn disk_with(alloc: Global, bytes: &[u8], failing: &[u64]) -> Result<MemoryDisk,
     Ok(disk)
 }
 
-// The first of these without its last byte.
+// The frame of data, without its last byte.
 const CUT_FRAME: &[u8] = &[
     0, 0, 0, 15, 0, 0, 0x01, 0x8C, 0xC2, 0x51, 0xF4, 0x00, 0x01, 0, 4, 0x64, 0x61, 0x74, 0x61,
 ];
 
-// The frame of the bucket logs, made at J0, behind its gate, with the next gate.
+// The frame of the bucket logs, made at J0, after its gate, with the next gate.
 const LOGS_FRAME: &[u8] = &[
     0, 0, 0, 15, 0, 0, 0x01, 0x8C, 0xC2, 0x51, 0xF4, 0x00, 0x01, 0, 4, 0x6C, 0x6F, 0x67, 0x73, 0,
 ];
 
-// The bytes of the bucket logs, with a further frame behind them.
+// The bytes of the bucket logs, with a further frame after them.
 fn logs_and(alloc: Global, frame: &[u8]) -> Result<Vec<u8>, Fail> {
     let mut bytes = LOGS[..30].to_vec(alloc)?;
     bytes.push(0xA5)?;
@@ -70,7 +70,7 @@ fn logs_and(alloc: Global, frame: &[u8]) -> Result<Vec<u8>, Fail> {
     Ok(bytes)
 }
 
-// What a desk is asked, of a bucket with this name.
+// What a desk is asked about a bucket with this name.
 #[derive(Clone, Copy, Debug)]
 enum Wish {
     Make(&'static str),
@@ -128,17 +128,17 @@ fn asked(alloc: Global, wish: Wish) -> Result<Ask, Fail> {
     }
 }
 
-// What was answered, without the names.
+// The answer, without the names.
 #[derive(Clone, Copy, Debug, PartialEq, Eq)]
 enum Heard {
     Made,
     // The moment of a put of the null version.
     Stored(u64),
-    // How many versions.
+    // The number of versions.
     Shown(u32),
     // The byte-milliseconds in STANDARD.
     Standard(u128),
-    // The bucket is there.
+    // The bucket exists already.
     There,
     // There is no such bucket.
     Missing,
@@ -178,7 +178,7 @@ fn reply_of(reply: &Result<Reply, Refusal>) -> Heard {
     }
 }
 
-// What the desk says, and whether it is stale then.
+// What the desk answers, and whether it is stale afterwards.
 fn answer(desk: &mut Desk<MemoryDisk, ListClock>, ask: &Ask) -> (Said, bool) {
     let said = match desk.submit(ask) {
         Ok(acked) => Ok((reply_of(acked.reply()), acked.position())),
@@ -187,11 +187,11 @@ fn answer(desk: &mut Desk<MemoryDisk, ListClock>, ask: &Ask) -> (Said, bool) {
     (said, desk.stale())
 }
 
-// A wish, with what the desk says and whether it is stale then.
+// A wish, with the desk's answer and whether it is stale afterwards.
 type Turn = (Wish, Said, bool);
 
-// Opens a desk over this disk and a clock that tells these numbers, takes the turns, and gives the disk back, with
-// the fault where the desk is not opened.
+// Opens a desk over this disk and a clock that gives these numbers, takes the turns, and returns the disk, with the
+// fault if the desk was not opened.
 fn take_turns(
     rt: &impl Abort,
     alloc: Global,
@@ -213,7 +213,7 @@ fn take_turns(
     }
 }
 
-// The same, and the bytes of the journal file then.
+// The same, with the bytes of the journal file afterwards.
 fn kept_after(
     rt: &impl Abort,
     alloc: Global,
@@ -230,12 +230,12 @@ const MAKE: Wish = Wish::Make("logs");
 
 const SHOW: Wish = Wish::Show("logs");
 
-// What is said of the bucket logs, behind whose entry the journal ends at 30.
+// Answers about the bucket logs. The journal ends at 30 after its entry.
 const MADE: Said = Ok((Heard::Made, 30));
 
 const THERE: Said = Ok((Heard::There, 30));
 
-// The clock is at its end; and the store failed in the first command.
+// The clock is at its end; the store failed in the first command.
 const ENDED: Heard = Heard::Ended(END);
 
 const LOST: Said = Err(DeskFault::StoreFault {
@@ -249,14 +249,14 @@ const PAST: Said = Ok((Heard::Ended(u64::MAX), 10));
 
 const FULL: Said = Err(DeskFault::JournalFull);
 
-// The clock's number, the limit, what is told twice, and the bytes of the file then.
+// The clock's number, the limit, the two answers, and the bytes of the file afterwards.
 const MAKINGS: &[(u64, u64, Said, Said, &[u8])] = &[
     (J0, 30, FULL, FULL, EMPTY),
     (J0, 31, MADE, FULL, LOGS),
     (J0, 50, MADE, FULL, LOGS),
     (J0, 51, MADE, THERE, LOGS),
     (END - 1, 51, MADE, THERE, LATE),
-    // At the end of time nothing is done, and the limit is not looked at.
+    // At the end of time nothing is done, and the limit is not checked.
     (END, 30, ENDED_AT_ONCE, ENDED_AT_ONCE, EMPTY),
     (u64::MAX, 51, PAST, PAST, EMPTY),
 ];
@@ -275,14 +275,14 @@ fn a_bucket_is_made_once_and_within_the_limit(rt: HostRuntime) -> Result<(), Fai
 
 const DAMAGED: Option<OpenFault> = Some(OpenFault::Damaged { offset: 30 });
 
-// What a journal file holds: other bytes than an entry, or the bucket logs and a further frame.
+// What a journal file holds: bytes that are not an entry, or the bucket logs and a further frame.
 #[derive(Clone, Copy, Debug)]
 enum Holding {
     Bytes(&'static [u8]),
     LogsAnd(&'static [u8]),
 }
 
-// The fault where the journal is not opened, and what making the bucket data answers.
+// The fault if the journal is not opened, and the answer to making the bucket data.
 const OPENINGS: &[(Holding, Option<OpenFault>, Heard)] = &[
     (Holding::Bytes(&[]), Some(OpenFault::NotMade), Heard::There),
     (
@@ -312,7 +312,7 @@ fn a_journal_is_opened_where_the_office_accepts_it(rt: HostRuntime) -> Result<()
     for (holding, fault, data) in OPENINGS {
         let file = bytes_of(alloc, holding)?;
         let end = (file.len() as u64).saturating_sub(1);
-        // The clock tells 0, and the entry has the moment of the one before.
+        // The clock gives 0, and the entry has the moment of the one before.
         let turns = [
             (MAKE, Ok((Heard::There, end)), false),
             (Wish::Make("data"), Ok((*data, 50)), false),
@@ -333,8 +333,8 @@ fn a_journal_is_opened_where_the_office_accepts_it(rt: HostRuntime) -> Result<()
 #[test]
 fn a_fault_of_the_store_is_told(rt: HostRuntime) -> Result<(), Fail> {
     let alloc = rt.alloc();
-    // Calls 2 to 7 open the office: a sync, the lengths of the two slots, the length of the journal, its head, the first
-    // gate. Calls 8 to 13 add the entry: three writes, a sync, the gate, a sync.
+    // Calls 2 to 7 open the office: a sync, the lengths of the two slots, the length of the journal, its head, and the
+    // first gate. Calls 8 to 13 add the entry: three writes, a sync, the gate, and a sync.
     for call in 2..14 {
         let disk = disk_with(alloc, EMPTY, &[call])?;
         let (fault, mut disk) = take_turns(&rt, alloc, disk, &[J0], 100, &[(MAKE, LOST, true)])?;
@@ -344,7 +344,7 @@ fn a_fault_of_the_store_is_told(rt: HostRuntime) -> Result<(), Fail> {
             None
         };
         assert_eq!(rt; (fault, disk.faults()), (want, 1), "call {call}");
-        // Opened again, the office has the bucket exactly where the gate of its entry is open.
+        // Opened again, the office has the bucket if and only if the gate of its entry is open.
         let is_open = read_all(alloc, &mut disk)?.get(10) == Some(&0xA5);
         let said = if is_open { THERE } else { MADE };
         let (fault, _) = take_turns(&rt, alloc, disk, &[J0], 100, &[(MAKE, said, false)])?;
@@ -353,7 +353,7 @@ fn a_fault_of_the_store_is_told(rt: HostRuntime) -> Result<(), Fail> {
     Ok(())
 }
 
-// The calls of the disk that fail, over an empty journal; what the clock tells; and the turns.
+// The calls of the disk that fail, over an empty journal; the clock's numbers; and the turns.
 type Row = (&'static [u64], &'static [u64], &'static [Turn]);
 
 const ADDING: Turn = (MAKE, LOST, true);
@@ -383,7 +383,7 @@ const STALE: &[Row] = &[
     (&[13, 14], &[J0], &[ADDING, OPENING, OLD]),
 ];
 
-// An entry of a put ends 33 bytes behind the one before it.
+// The entry of a put ends 33 bytes after the one before it.
 const CLOCKS: &[Row] = &[
     (
         &[],
@@ -412,7 +412,7 @@ const CLOCKS: &[Row] = &[
     ),
 ];
 
-// Call 14 would be the first one behind the entry of the bucket, and it fails.
+// Call 14 would be the first one after the entry of the bucket, and it fails.
 const QUERIES: &[Row] = &[(
     &[14],
     &[J0],
@@ -439,14 +439,15 @@ const OTHER: Wish = Wish::MakeOnce("t1", "data");
 
 const PUT_ONCE: Wish = Wish::PutOnce("t2", "logs", 1_000);
 
-// What is said of the bucket logs, behind whose entry with a token the journal ends at 33; and of the put behind it.
+// Answers about the bucket logs and about the put after it. The journal ends at 33 after the bucket's entry with a
+// token.
 const MADE_ONCE: Said = Ok((Heard::Made, 33));
 
 const REUSED: Said = Ok((Heard::Reused(1), 33));
 
 const STORED_ONCE: Said = Ok((Heard::Stored(J0 + 5), 69));
 
-// A command that is asked again is answered as before, at any moment but the end of time. An act carries no token.
+// A command that is asked again gets the same answer, at any moment before the end of time. An act carries no token.
 const TOKENS: &[Row] = &[
     (
         &[],
@@ -470,7 +471,7 @@ const TOKENS: &[Row] = &[
             (ONCE, Ok((ENDED, 69)), false),
         ],
     ),
-    // A journal without tokens is continued; what was refused is not kept.
+    // A journal without tokens is continued; a refused command keeps no reply.
     (
         &[],
         &[J0, J0, J0, J0],
@@ -481,7 +482,7 @@ const TOKENS: &[Row] = &[
             (ONCE, Ok((Heard::Reused(1), 53)), false),
         ],
     ),
-    // Call 9 syncs the frame, call 11 its gate: then the command is done, and its reply is kept.
+    // Call 9 syncs the frame and call 11 its gate; then the command is done, and its reply is kept.
     (
         &[9],
         &[J0, J0, J0],
@@ -503,7 +504,7 @@ const TOKENS: &[Row] = &[
     ),
 ];
 
-// A reply that is kept needs no room in the journal, also where it is opened again.
+// A kept reply needs no room in the journal, even after it is opened again.
 #[test]
 fn a_kept_reply_is_given_at_the_limit(rt: HostRuntime) -> Result<(), Fail> {
     let alloc = rt.alloc();
@@ -539,7 +540,7 @@ fn stale_desks_clocks_and_queries(rt: HostRuntime) -> Result<(), Fail> {
 fn meters_are_the_same_after_an_opening(rt: HostRuntime) -> Result<(), Fail> {
     let alloc = rt.alloc();
     let disk = disk_with(alloc, EMPTY, &[])?;
-    // 1,000 bytes for a day, and 2,000 bytes for another.
+    // 1,000 bytes for one day, and 2,000 bytes for another.
     let used = (
         Wish::January("logs"),
         Ok((Heard::Standard(259_200_000_000), 96)),
@@ -586,7 +587,7 @@ fn tell<C: Clock>(clock: &mut C) -> u64 {
     clock.now()
 }
 
-// The numbers of a list, and what its clock tells.
+// The numbers of a list, and those that its clock gives.
 const LISTS: &[(&[u64], [u64; 5])] = &[
     (&[5, 3, 9], [5, 3, 9, 9, 9]),
     (&[7], [7; 5]),

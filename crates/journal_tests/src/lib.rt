@@ -1,4 +1,4 @@
-//! Tests of the crates that stand on the journal: the desk, the generator of loads, what is explained of a journal.
+//! Tests of the crates above the journal: the desk, the generator of loads, and the table of stays.
 #![tactic(auto)]
 
 #[cfg(test)]

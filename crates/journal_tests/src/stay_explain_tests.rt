@@ -19,7 +19,7 @@ const DAY: u64 = 86_400_000;
 
 const HEADER: &str = "bucket,key,item,class,bytes,from,to\n";
 
-// What stands in a journal before the first gate.
+// The bytes of a journal before the first gate.
 const HEAD: [u8; 10] = [0xA5, 0x4D, 0x45, 0x54, 0x45, 0x52, 0x4A, 0x52, 0x4E, 0x31];
 
 // Objects go to GLACIER after 30 days, and unfinished uploads go after 7.
@@ -28,7 +28,7 @@ const RULES: &str = "{\"Rules\":[{\"ID\":\"all\",\"Filter\":{\"Prefix\":\"\"},\
     \"Transitions\":[{\"Days\":30,\"StorageClass\":\"GLACIER\"}],\
     \"AbortIncompleteMultipartUpload\":{\"DaysAfterInitiation\":7}}]}";
 
-// A command in few words; all are on the bucket logs but the first and the last.
+// A command in a few words. All but the first and the last are on the bucket logs.
 #[derive(Clone, Copy, Debug)]
 enum Wish<'a> {
     Make(&'a str),
@@ -45,7 +45,7 @@ enum Wish<'a> {
     Abort(u64),
     Act,
     PutIn(&'a str, &'a str),
-    // With this token a bucket is made.
+    // A bucket is made with this token.
     Once(&'a str, &'a str),
 }
 
@@ -109,7 +109,7 @@ fn set_rules(alloc: Global) -> Result<Command, Fail> {
     })
 }
 
-// A command on the bucket logs that names no key.
+// A command on the bucket logs without a key.
 fn plain(alloc: Global, wish: Wish<'_>) -> Result<Command, Fail> {
     let bucket = logs(alloc)?;
     Ok(match wish {
@@ -156,7 +156,7 @@ fn token(alloc: Global, wish: Wish<'_>) -> Result<Option<Token>, Fail> {
     }
 }
 
-// The spelling of a command so many milliseconds after the new year.
+// The bytes of a command this many milliseconds after New Year.
 fn spelled(alloc: Global, after: u64, wish: Wish<'_>) -> Result<Vec<u8>, Fail> {
     let moment = Moment::of(NEW_YEAR.saturating_add(after))?;
     let command = command(alloc, wish)?;
@@ -180,7 +180,7 @@ fn spelled(alloc: Global, after: u64, wish: Wish<'_>) -> Result<Vec<u8>, Fail> {
     Ok(encode(alloc, &entry)?)
 }
 
-// The frame of an entry with this spelling, behind an open gate.
+// Adds the frame of an entry with these bytes, after an open gate.
 fn add(bytes: &mut Vec<u8>, spelling: &[u8]) -> Result<(), Fail> {
     let Ok(size) = u32::try_from(spelling.len()) else {
         return Err(Fail::new("too long"));
@@ -191,7 +191,7 @@ fn add(bytes: &mut Vec<u8>, spelling: &[u8]) -> Result<(), Fail> {
     Ok(())
 }
 
-// The journal of these commands, each so many milliseconds after the new year.
+// The journal of these commands, each this many milliseconds after New Year.
 fn journal(alloc: Global, wishes: &[(u64, Wish<'_>)]) -> Result<Vec<u8>, Fail> {
     let mut bytes = Vec::new(alloc);
     bytes.extend_from_slice(&HEAD)?;
@@ -203,7 +203,7 @@ fn journal(alloc: Global, wishes: &[(u64, Wish<'_>)]) -> Result<Vec<u8>, Fail> {
     Ok(bytes)
 }
 
-// The table of the journal of these commands is the header and this text, for any number of workers.
+// Whether the table of these commands' journal is the header and this text, for any number of workers.
 fn is_table(
     rt: &(impl Abort + Threads + Sync),
     alloc: Global,
@@ -223,7 +223,7 @@ fn is_table(
     Ok(())
 }
 
-// The table of a journal by so many workers, from 1 to 64.
+// The table of a journal, made by this many workers, from 1 to 64.
 fn explained(
     rt: &(impl Threads + Sync),
     alloc: Global,
@@ -233,7 +233,7 @@ fn explained(
     explain(rt, alloc, bytes, workers.clamp(1, 64))
 }
 
-// Commands, each so many milliseconds after the new year, and the lines of the table.
+// Commands, each this many milliseconds after New Year, and the lines of the table.
 type Row = (&'static [(u64, Wish<'static>)], &'static str);
 
 const TABLES: &[Row] = &[
@@ -245,7 +245,7 @@ const TABLES: &[Row] = &[
         ],
         "logs,a,v:null,STANDARD,1,2024-01-01T00:00:00.000Z,open\n",
     ),
-    // A null version is replaced at the moment at which it came.
+    // A null version is replaced at the moment at which it was put.
     (
         &[
             (0, Wish::Make("logs")),
@@ -257,7 +257,7 @@ const TABLES: &[Row] = &[
          logs,\"a,b\",v:null,GLACIER,32769,2024-01-01T00:00:00.005Z,open\n\
          logs,\"a,b\",v:null,STANDARD,8192,2024-01-01T00:00:00.005Z,open\n",
     ),
-    // Entries with tokens behind one without.
+    // Entries with tokens, after one without.
     (
         &[
             (0, Wish::Make("logs")),
@@ -339,7 +339,7 @@ const TABLES: &[Row] = &[
          logs,w,u:2/3,STANDARD,9,2024-01-01T00:00:00.006Z,2024-01-01T00:00:00.007Z\n\
          logs,w,u:3/3,STANDARD,9,2024-01-01T00:00:00.009Z,2024-01-09T00:00:00.000Z\n",
     ),
-    // A transition that is done late stands at its moment, and its stay at the place of the act.
+    // A late transition has the moment at which it was due; its stay has the place of the act.
     (
         &[
             (0, Wish::Make("logs")),
@@ -369,7 +369,7 @@ fn fault_of(rt: &(impl Threads + Sync), alloc: Global, bytes: &[u8]) -> Option<O
     explained(rt, alloc, bytes, 4).err()
 }
 
-// Two commands of which the office does not accept the second, and the gate of its entry.
+// Two commands, the second of which the office does not accept, and the gate of its entry.
 const REFUSED: &[(&[(u64, Wish<'static>)], u64)] = &[
     (&[(0, Wish::Make("logs")), (0, Wish::Make("logs"))], 30),
     (&[(1, Wish::Make("logs")), (0, Wish::Make("barn"))], 30),
