@@ -19,7 +19,7 @@ const LOGS: &[u8] = &[
     0x8C, 0xC2, 0x51, 0xF4, 0x00, 0x01, 0, 4, 0x6C, 0x6F, 0x67, 0x73, 0,
 ];
 
-// The same, with another first byte of the entry's moment, which is then past the end of time.
+// The same with another first byte in the entry's moment, which is then past the end of time.
 const DAMAGED: &[u8] = &[
     0xA5, 0x4D, 0x45, 0x54, 0x45, 0x52, 0x4A, 0x52, 0x4E, 0x31, 0xA5, 0, 0, 0, 15, 0x37, 0, 0x01,
     0x8C, 0xC2, 0x51, 0xF4, 0x00, 0x01, 0, 4, 0x6C, 0x6F, 0x67, 0x73, 0,
@@ -40,8 +40,8 @@ const MAKE_DATA: Turn = (Wish::Make("data"), Ok((Heard::Made, 50)), false);
 
 const MAKE_REST: Turn = (Wish::Make("rest"), Ok((Heard::Made, 70)), false);
 
-// The calls of the disk until the first bucket is acknowledged, from the write of the journal file to the sync of the
-// gate behind its entry.
+// The disk's calls until the first bucket is acknowledged, from the write of the journal file to the sync of the gate
+// after its entry.
 const ACKNOWLEDGED: u64 = 13;
 
 // The end of that session takes fewer calls.
@@ -51,7 +51,7 @@ const LAST: u64 = ACKNOWLEDGED + LONGEST_END + 1;
 
 const UNSAVED: Ended = Ended::Finished(Err(SaveFault::StoreFault));
 
-// A disk with these files, of which the calls with these numbers fail.
+// A disk with these files. Its calls with these numbers fail.
 fn disk_with(
     alloc: Global,
     journal: &[u8],
@@ -100,13 +100,13 @@ fn loaded(alloc: Global, disk: &mut MemoryDisk) -> Loaded {
     }
 }
 
-// The turns of a session, the heads of both slots after it, and what is loaded then.
+// The turns of a session, the heads of both slots after it, and what is then loaded.
 const SESSIONS: &[(&[Turn], Head, Head, Loaded)] = &[
     (&[], None, None, Ok(None)),
     (&[MAKE_LOGS], Some((0xA7, 30)), None, Ok(Some((1, 30)))),
-    // A session that accepts no command leaves the slots.
+    // A session that accepts no command leaves the slots unchanged.
     (&[SHOW_LOGS], Some((0xA7, 30)), None, Ok(Some((1, 30)))),
-    // The next ones go into the slot that is not loaded, at the end of the journal then.
+    // The next sessions save into the slot that is not loaded, with the position of the journal's end.
     (
         &[MAKE_DATA],
         Some((0xA7, 30)),
@@ -139,8 +139,8 @@ fn the_end_of_a_session_saves_a_checkpoint(rt: HostRuntime) -> Result<(), Fail> 
     Ok(())
 }
 
-// How the end of a session goes whose disk fails at the calls with these numbers. The office is opened again until they
-// are past, and has the bucket each time. Then the next session saves what this one may not have saved.
+// How a session ends whose disk fails at the calls with these numbers. The office is opened again until those calls are
+// past, and has the bucket each time. Then the next session saves what this one may not have saved.
 fn end_of(rt: &impl Abort, alloc: Global, failing: &[u64]) -> Result<Ended, Fail> {
     let (mut disk, end) = session(rt, alloc, new_disk(alloc, failing)?, &[&[MAKE_LOGS]])?;
     for _ in 0..LONGEST_END {
@@ -155,7 +155,7 @@ fn end_of(rt: &impl Abort, alloc: Global, failing: &[u64]) -> Result<Ended, Fail
     Ok(end)
 }
 
-// Whether the end fails where this call does, and the same where a later one fails too, or all of them.
+// Whether the end fails if this call fails, and also if a later one fails too, or all later ones.
 fn end_fails(rt: &impl Abort, alloc: Global, number: u64) -> Result<bool, Fail> {
     let end = end_of(rt, alloc, &[number])?;
     assert!(rt; end == FINISHED || end == UNSAVED, "{end:?}");
@@ -183,8 +183,8 @@ fn an_end_whose_disk_fails_loses_nothing(rt: HostRuntime) -> Result<(), Fail> {
     Ok(())
 }
 
-// The calls of the disk that fail, counted from 1, and what is loaded where there are no slots: the lengths of two
-// files are read.
+// The calls of the disk that fail, counted from 1, and what is loaded if there are no slots. The lengths of two files
+// are read.
 const LOADS: &[(&[u64], Loaded)] = &[
     (&[1], Err(SaveFault::StoreFault)),
     (&[2], Err(SaveFault::StoreFault)),
@@ -201,7 +201,7 @@ fn a_load_fails_where_its_disk_does(rt: HostRuntime) -> Result<(), Fail> {
     Ok(())
 }
 
-// The gate of the slot that a session left, the bytes of the journal file, what is loaded, and how a session ends then.
+// The gate of the slot that a session left, the bytes of the journal file, what is loaded, and how a session then ends.
 type Opening = (u8, &'static [u8], Loaded, Ended);
 
 const FROM_SLOT: Loaded = Ok(Some((1, 30)));
@@ -213,7 +213,7 @@ const OPENINGS: &[Opening] = &[
     (0x37, LOGS, Ok(None), FINISHED),
     (0xA5, LOGS, Ok(None), FINISHED),
     (0xA6, LOGS, Ok(None), FINISHED),
-    // Damage before the position is found where the whole journal is read.
+    // Damage before the position is found only if the whole journal is read.
     (0xA7, DAMAGED, FROM_SLOT, FINISHED),
     (
         0x37,
@@ -237,9 +237,9 @@ fn an_office_is_opened_from_an_open_slot_alone(rt: HostRuntime) -> Result<(), Fa
     Ok(())
 }
 
-// Sessions, of which the last saves a checkpoint; the disk's calls from the one that acknowledges its command to its
-// last one; the bytes of the journal file then; what is asked of each image; and what is loaded from it: the checkpoint
-// that was there before, or the new one.
+// Sessions, the last of which saves a checkpoint. Then the disk's calls, from the one that acknowledges the command to
+// the last one; the bytes of the journal file afterwards; and what is asked of each image. An image gives the earlier
+// checkpoint or the new one.
 #[derive(Clone, Copy, Debug)]
 struct Save {
     sessions: &'static [&'static [Turn]],
@@ -287,7 +287,7 @@ fn slot_images(
     Ok(distinct)
 }
 
-// Opens the journal beside these images of the slots. Returns whether the new checkpoint is the one that is loaded.
+// Opens the journal with these images of the slots. Returns whether the new checkpoint is loaded.
 fn opens_anew(
     rt: &impl Abort,
     alloc: Global,
@@ -303,8 +303,8 @@ fn opens_anew(
     Ok(found == save.new)
 }
 
-// Opens the journal beside each pair of images of the slots after this many calls. Returns from how many the checkpoint
-// of before is loaded, and from how many the new one.
+// Opens the journal with each pair of images of the slots after this many calls. Returns from how many pairs the
+// earlier checkpoint is loaded, and from how many the new one.
 fn stop(
     rt: &impl Abort,
     alloc: Global,
@@ -341,8 +341,8 @@ fn disk_after(rt: &impl Abort, alloc: Global, sessions: &[&[Turn]]) -> Result<Me
     Ok(disk)
 }
 
-// Up to the sync of the body a stop loses the new checkpoint, after the last sync none does. The body has 71 bytes and
-// more; while it is written, its images are cut or filled anywhere.
+// Up to the sync of the body, a stop loses the new checkpoint; after the last sync, no stop does. The body has at least
+// 71 bytes. While it is written, its images may be cut or filled anywhere.
 #[test]
 fn each_image_of_a_stopped_end_opens(rt: HostRuntime) -> Result<(), Fail> {
     let alloc = rt.alloc();

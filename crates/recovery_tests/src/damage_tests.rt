@@ -1,4 +1,4 @@
-// Journals that are damaged, beside checkpoints of places before, at and behind the damage.
+// Damaged journals, with checkpoints whose positions are before, at and after the damage.
 use crate::parts::{CLOSED, DATA, LENGTH, LOGS, MAKE, MARK, MOMENT, OPEN, REST, joined};
 use crate::sessions::{Ended, FINISHED, Heard, Turn, Wish, session};
 use disk_core::{Disk, FileNo, MemoryDisk};
@@ -10,28 +10,29 @@ use std::test::Fail;
 // A part of a file.
 type Part = &'static [u8];
 
-// The buckets logs, data and rest, behind the gates at 10, 30 and 50; the end gate is at 70.
+// The buckets logs, data and rest, after the gates at 10, 30 and 50; the end gate is at 70.
 const JOURNAL: &[Part] = &[
     OPEN, MARK, OPEN, LENGTH, MOMENT, MAKE, LOGS, OPEN, LENGTH, MOMENT, MAKE, DATA, OPEN, LENGTH,
     MOMENT, MAKE, REST, CLOSED,
 ];
 
-// Of a slot: its open gate; the high bytes of a position, and of the length of a body; what stands in a body between
-// the last moment and the number of buckets: the first open month, no tariffs, no closed months, and high bytes.
+// Parts of a slot: its open gate; the high bytes of a position, and of the length of a body; and the bytes of a body
+// between the last moment and the number of buckets (the first open month, no tariffs, no closed months, and high
+// bytes).
 const OPEN_SLOT: Part = &[0xA7];
 
 const HIGH: Part = &[0; 7];
 
 const BEFORE: Part = &[0x07, 0xE8, 0x01, 0, 0, 0, 0, 0, 0, 0, 0];
 
-// The head of a bucket behind its name: its versioning, when its rules were set, no rules, the next numbers of a
+// The head of a bucket after its name: its versioning, when its rules were set, no rules, and the next numbers of a
 // version and of an upload.
 const HEAD: Part = &[
     0, 0, 0, 0x01, 0x8C, 0xC2, 0x51, 0xF4, 0x00, 0, 0, 0, 0, 0, 0, 0, 0, 0, 0, 0, 1, 0, 0, 0, 0, 0,
     0, 0, 1,
 ];
 
-// The counts of stacks, uploads and months of a bucket; and that of the kept replies.
+// The counts of stacks, uploads and months of a bucket; and the count of kept replies.
 const COUNTS: Part = &[0; 12];
 
 const NO_REPLIES: Part = &[0; 4];
@@ -96,7 +97,7 @@ const AT_70: &[Part] = &[
 // Both slots.
 type Slots = (&'static [Part], &'static [Part]);
 
-// How a session ends, and what is said in it.
+// How a session ends, and its turns.
 type Found = (Ended, &'static [Turn]);
 
 const WHOLE: Found = (
@@ -118,7 +119,7 @@ const SHORTER: Found = (
     ],
 );
 
-// With another bucket than the last one.
+// With another bucket in place of the last one.
 const RENAMED: Found = (
     FINISHED,
     &[
@@ -140,8 +141,8 @@ const DAMAGED_50: Found = (Ended::Unopened(OpenFault::Damaged { offset: 50 }), &
 
 const DAMAGED_70: Found = (Ended::Unopened(OpenFault::Damaged { offset: 70 }), &[]);
 
-// Bytes of the journal, from the first to the last, each of which is set to this value; what is found then where the
-// last frame is read; and what is found from a checkpoint behind it.
+// Bytes of the journal, from the first to the last, each of which is set to this value; what is then found if the last
+// frame is read; and what is found from a checkpoint after it.
 type Bytes = (usize, usize, u8, Found, Found);
 
 const BYTES: &[Bytes] = &[
@@ -155,7 +156,7 @@ const BYTES: &[Bytes] = &[
     (51, 54, 0x37, DAMAGED_50, WHOLE),
     (51, 53, 0x00, WHOLE, WHOLE),
     (54, 54, 0x00, DAMAGED_50, WHOLE),
-    // Its moment: past the end of time, before that of the entry before, or 55 milliseconds later.
+    // Its moment: past the end of time, before the previous entry's, or 55 milliseconds later.
     (55, 57, 0x37, DAMAGED_50, WHOLE),
     (55, 56, 0x00, WHOLE, WHOLE),
     (57, 57, 0x00, DAMAGED_50, WHOLE),
@@ -166,7 +167,7 @@ const BYTES: &[Bytes] = &[
     // Its kind.
     (63, 63, 0x37, DAMAGED_50, WHOLE),
     (63, 63, 0x00, DAMAGED_50, WHOLE),
-    // The length of the name, and the name: a digit is a letter of a name, and 00 is none.
+    // The length of the name, and the name: a digit is allowed in a name, and the byte 00 is not.
     (64, 65, 0x37, DAMAGED_50, WHOLE),
     (64, 64, 0x00, WHOLE, WHOLE),
     (65, 65, 0x00, DAMAGED_50, WHOLE),
@@ -177,12 +178,12 @@ const BYTES: &[Bytes] = &[
     (70, 70, 0x00, WHOLE, WHOLE),
 ];
 
-// Slots before the last frame or at its gate, and behind it. The one with the greater position counts.
+// Slots before the last frame or at its gate, and after it. The one with the greater position counts.
 const BEFORE_IT: &[Slots] = &[(NONE, NONE), (AT_30, NONE), (NONE, AT_50), (AT_30, AT_50)];
 
 const BEHIND_IT: &[Slots] = &[(AT_70, NONE), (AT_70, AT_50), (AT_30, AT_70)];
 
-// Lengths to which the journal is cut, from the first to the last, and what is found beside these slots.
+// Lengths to which the journal is cut, from the first to the last, and what is found with these slots.
 const CUTS: &[(Slots, usize, usize, Found)] = &[
     ((NONE, NONE), 0, 10, NOT_MADE),
     ((NONE, NONE), 11, 30, DAMAGED_10),
@@ -201,7 +202,7 @@ const CUTS: &[(Slots, usize, usize, Found)] = &[
     ((AT_70, AT_50), 71, 71, WHOLE),
 ];
 
-// Opens this journal beside these slots.
+// Opens this journal with these slots.
 fn assert_found(
     rt: &impl Abort,
     alloc: Global,
@@ -220,7 +221,7 @@ fn assert_found(
     Ok(())
 }
 
-// The journal with this byte.
+// The journal with this byte changed.
 fn journal_with(alloc: Global, at: usize, value: u8) -> Result<Vec<u8>, Fail> {
     let mut journal = joined(alloc, JOURNAL)?;
     if let Some(byte) = journal.get_mut(at) {

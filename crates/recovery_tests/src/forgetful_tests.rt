@@ -1,4 +1,4 @@
-// Journals that were lost: what a desk finds of one whose disk did not keep what it synced.
+// Lost journals: what a desk finds if the disk did not keep what it synced.
 use crate::parts::{CLOSED, DATA, LENGTH, LOGS, MAKE, MARK, MOMENT, OPEN, joined};
 use crate::sessions::{Ended, FINISHED, Heard, J0, Said, Turn, Wish, session};
 use desk_core::DeskFault;
@@ -8,26 +8,26 @@ use std::alloc::Global;
 use std::process::Abort;
 use std::test::Fail;
 
-// What a sync that fails loses: the bytes from a place on, or those that others stand in place of.
+// What a failed sync loses: the bytes from an offset on, or bytes that others replace.
 #[derive(Clone, Copy, Debug)]
 enum Lost {
     Cut(u64),
     Over(u64, &'static [u8]),
 }
 
-// A journal of which a sync fails. Syncs are counted from 1: five make the file, one opens it, and of the two of each
-// command the first is that of its frame, whose gate is still closed, and the second that of the gate.
+// A journal with a failed sync. Syncs are counted from 1: five make the file, and one opens it. Each command then has
+// two: the first for its frame, whose gate is still closed, and the second for the gate.
 #[derive(Clone, Copy, Debug)]
 struct Row {
     failing: u64,
     lost: Lost,
-    // Up to the command that fails.
+    // The turns up to the command that fails.
     turns: &'static [Turn],
-    // The next ones.
+    // The next turns.
     then: &'static [Turn],
     // How a later session ends.
     again: Ended,
-    // What the journal file holds from the fault on.
+    // The bytes of the journal file, from the fault on.
     left: &'static [&'static [u8]],
 }
 
@@ -43,7 +43,7 @@ const FIRST: &[Turn] = &[(Wish::Make("logs"), FAULT, true)];
 
 const SECOND: &[Turn] = &[MADE, (Wish::Make("data"), FAULT, true)];
 
-// The journal is opened again in each of two calls.
+// Each of two calls opens the journal again.
 const NOT_MADE: &[Turn] = &[
     (
         Wish::Make("rest"),
@@ -84,7 +84,7 @@ const DATA_DAMAGED: &[Turn] = &[
     (Wish::Show("logs"), Err(DeskFault::Broken(AT_DATA)), true),
 ];
 
-// A shorter history: that without a bucket, whose end gate is at 10, or with the bucket logs alone.
+// A shorter history: one without a bucket, whose end gate is at 10, or one with only the bucket logs.
 const NO_LOGS: &[Turn] = &[(Wish::Show("logs"), Ok((Heard::Missing, 10)), false)];
 
 const LOGS_ALONE: &[Turn] = &[
@@ -160,7 +160,8 @@ const ROWS: &[Row] = &[
         again: Ended::Unopened(AT_DATA),
         left: &[OPEN, MARK, OPEN, LENGTH, MOMENT, MAKE, LOGS, OPEN],
     },
-    // Bytes that are no entry: a moment past the end of time, no kind. The second damage is in what was acknowledged.
+    // Bytes that are not an entry: a moment past the end of time, or no kind. The second damage is in an acknowledged
+    // entry.
     Row {
         failing: 8,
         lost: Lost::Over(15, &[0xFF]),
@@ -222,7 +223,7 @@ const ROWS: &[Row] = &[
             CLOSED,
         ],
     },
-    // An entry whose moment is before that of the entry before, and one that the office does not accept there.
+    // An entry whose moment is before the previous entry's, and one that the office does not accept there.
     Row {
         failing: 10,
         lost: Lost::Over(41, &[0xF3]),
@@ -255,7 +256,7 @@ const ROWS: &[Row] = &[
             OPEN, MARK, OPEN, LENGTH, MOMENT, MAKE, LOGS, OPEN, LENGTH, MOMENT, MAKE, LOGS, CLOSED,
         ],
     },
-    // A whole journal with a shorter history, also one without the bucket that was acknowledged.
+    // A whole journal with a shorter history, also without the acknowledged bucket.
     Row {
         failing: 7,
         lost: Lost::Cut(11),
@@ -327,7 +328,7 @@ fn assert_left(
     Ok(())
 }
 
-// A session over these turns, and then over the file that it leaves.
+// Checks a session over these turns, and then one over the file that it leaves.
 fn assert_row(rt: &impl Abort, alloc: Global, row: &Row, lists: &[&[Turn]]) -> Result<(), Fail> {
     let (mut disk, ended) = session(rt, alloc, disk_of(alloc, row)?, lists)?;
     assert_eq!(rt; ended, FINISHED, "sync {}, {:?}", row.failing, row.lost);

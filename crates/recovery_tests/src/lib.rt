@@ -1,4 +1,4 @@
-//! Tests of what an office is opened from: checkpoints that the end of a session saved, and journals that are damaged.
+//! Tests of what an office is opened from: checkpoints that the end of a session saved, and damaged journals.
 #![tactic(auto)]
 
 #[cfg(test)]

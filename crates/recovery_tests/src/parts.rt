@@ -1,4 +1,4 @@
-// The parts of files, as docs/FORMATS.md and the README of checkpoint have them.
+// The parts of files, as docs/FORMATS.md and the README of checkpoint describe them.
 use std::alloc::Global;
 use std::test::Fail;
 

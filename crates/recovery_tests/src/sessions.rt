@@ -1,4 +1,4 @@
-// Sessions of a desk: what it is asked and what it says, and how it ends.
+// Sessions of a desk: asks and answers, and how the session ends.
 use desk_core::{Desk, DeskFault, ListClock, SaveFault};
 use disk_core::Disk;
 use meter_journal::OpenFault;
@@ -8,17 +8,17 @@ use std::alloc::Global;
 use std::process::Abort;
 use std::test::Fail;
 
-// 2024-01-01 00:00 UTC, which the clock tells.
+// 2024-01-01 00:00 UTC, which the clock gives.
 pub const J0: u64 = 1_704_067_200_000;
 
-// What a desk is asked, of a bucket with this name.
+// What a desk is asked about a bucket with this name.
 #[derive(Clone, Copy, Debug)]
 pub enum Wish {
     Make(&'static str),
     Show(&'static str),
 }
 
-// What was answered.
+// The answer.
 #[derive(Clone, Copy, Debug, PartialEq, Eq)]
 pub enum Heard {
     Made,
@@ -32,10 +32,10 @@ pub enum Heard {
 // The answer, and the position of the journal's end.
 pub type Said = Result<(Heard, u64), DeskFault>;
 
-// A wish, with what the desk says and whether it is stale then.
+// A wish, with the desk's answer and whether it is stale afterwards.
 pub type Turn = (Wish, Said, bool);
 
-// How a session ended: the fault where the desk was not opened, or what became of the checkpoint.
+// How a session ended: the fault if the desk was not opened, or what became of the checkpoint.
 #[derive(Clone, Copy, Debug, PartialEq, Eq)]
 pub enum Ended {
     Unopened(OpenFault),
@@ -63,7 +63,7 @@ fn told_by(reply: &Result<Reply, Refusal>) -> Heard {
     }
 }
 
-// What the desk says, and whether it is stale then.
+// What the desk answers, and whether it is stale afterwards.
 fn answer<D: Disk + Drop>(desk: &mut Desk<D, ListClock>, ask: &Ask) -> (Said, bool) {
     let said = match desk.submit(ask) {
         Ok(acked) => Ok((told_by(acked.reply()), acked.position())),
