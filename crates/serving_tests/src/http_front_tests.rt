@@ -62,7 +62,7 @@ const CUT: &[u8] =
 
 const PUT: &[u8] = b"PUT /buckets/logs HTTP/1.1\r\nHost: x\r\n\r\n";
 
-/// Tells each ask that the journal is full, but those with these numbers, counted from 1.
+/// Answers each ask that the journal is full, except those with these numbers, counted from 1.
 #[derive(Drop)]
 struct FullTeller {
     asks: u64,
@@ -88,8 +88,8 @@ impl Teller for FullTeller {
     }
 }
 
-/// The calls that fail, each kind counted from 1: reads, texts said, an ask by the store, and one by want of memory
-/// (0: none).
+/// The calls that fail, each kind counted from 1: reads, texts, an ask with a store fault, and an ask that runs out of
+/// memory (0: none).
 #[derive(Clone, Copy)]
 struct Failing {
     reads: &'static [u64],
@@ -113,7 +113,7 @@ fn joined(alloc: Global, pieces: &[&[u8]]) -> Result<Vec<u8>, Fail> {
     Ok(all)
 }
 
-/// Has one session. It is the one place at which `session` is called.
+/// Has one session. Only this function calls `session`.
 fn talk<S: Source, W: Replies, T: Teller>(
     alloc: Global,
     source: &mut S,
@@ -123,8 +123,8 @@ fn talk<S: Source, W: Replies, T: Teller>(
     session(alloc, source, out, teller)
 }
 
-/// Has one session over a stream, given in pieces, that is read in cuts of so many bytes, and looks at its end and
-/// at the replies, given in pieces.
+/// Has one session over a stream, given in pieces and read in cuts of this many bytes. Checks its end and the replies,
+/// also given in pieces.
 fn assert_session(
     rt: &impl Abort,
     alloc: Global,
@@ -151,7 +151,7 @@ fn assert_session(
     Ok(())
 }
 
-// The front of a refusal of a message, up to the size of its body; and what stands between the two.
+// The front of the reply to a refused message, up to the size of its body; and the text between the two.
 const BAD: &[u8] =
     b"HTTP/1.1 400 Bad Request\r\ncontent-type: application/json\r\ncontent-length: ";
 
@@ -230,12 +230,12 @@ fn reply_of(alloc: Global, status: Text, size: Text, body: Text) -> Result<Vec<u
     )
 }
 
-// Whether the call's reply is printed into a room so.
+// Whether the call's reply is printed into a room as this.
 fn is_printed_into(room: &mut [u8], fault: &DeskFault, reply: &[u8]) -> bool {
     print_fault(room, fault) == Ok(reply.len()) && room.starts_with(reply)
 }
 
-// Whether the reply is printed so.
+// Whether the reply is printed as this.
 fn is_printed(alloc: Global, bad: &Bad, reply: &[u8]) -> bool {
     match print_bad(alloc, bad) {
         Ok(text) => text.as_slice() == reply,
@@ -257,7 +257,7 @@ fn faults_are_printed_exactly(rt: HostRuntime) -> Result<(), Fail> {
     Ok(())
 }
 
-// A refusal that tells no text of the message.
+// A refusal without any text from the message.
 #[derive(Clone, Copy, Debug)]
 enum Refused {
     NotADate,
@@ -409,7 +409,7 @@ fn refusals_are_printed_exactly(rt: HostRuntime) -> Result<(), Fail> {
     Ok(())
 }
 
-// How often the same bucket is asked for, the cut, what fails, and how the session ends.
+// The requests for the same bucket, the cut, what fails, how the session ends, and the replies.
 const FAILURES: &[(&[&[u8]], usize, Failing, SessionEnd, &[&[u8]])] = &[
     (
         &[PUT, PUT],
@@ -447,7 +447,7 @@ const FAILURES: &[(&[&[u8]], usize, Failing, SessionEnd, &[&[u8]])] = &[
         SessionEnd::WriteFault,
         &[FULL],
     ),
-    // A session goes on after a fault of the store, and ends where memory ran out.
+    // A session goes on after a store fault, and ends if memory runs out.
     (
         &[PUT, PUT, PUT],
         99,
@@ -517,7 +517,7 @@ const REFUSED_FRAMINGS: &[(&[u8], &[u8])] = &[
     (b"\r\n", CUT),
 ];
 
-// Messages that lead nowhere or have no method of where they lead, each with its reply.
+// Messages whose target leads nowhere, or whose resource does not serve the method, each with its reply.
 const NOT_SERVED: &[(&[u8], &[u8])] = &[
     (b"GET / HTTP/1.1\r\n\r\n", NO_ROUTE),
     (b"PUT /bucket/logs HTTP/1.1\r\n\r\n", NO_ROUTE),

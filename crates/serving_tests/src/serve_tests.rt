@@ -43,7 +43,7 @@ fn port_of(alloc: Global, lines: &[&[u8]]) -> Result<MemoryPort, Fail> {
     MemoryPort::new(alloc, list, Vec::new(alloc)).map_err(|_| Fail::from("no memory"))
 }
 
-/// What the command is given, but for the port and the gate: no input, at 2024-01-01 00:00 UTC, over a journal without
+/// What the command is given, except the port and the gate: no input, at 2024-01-01 00:00 UTC, over a journal without
 /// entries.
 #[derive(Drop)]
 struct Given {
@@ -70,7 +70,7 @@ impl Given {
     }
 }
 
-// Does the command. It is the one place at which the program is called.
+// Does the command. Only this function calls the program.
 fn serve_on<P: Port + Send, G: Gate + Sync, R: Threads + Wait + Sync>(
     rt: &R,
     alloc: Global,
@@ -104,7 +104,7 @@ where
     )
 }
 
-/// Replies in memory that raise a flag once one was said.
+/// Replies in memory that raise a flag after one was said.
 #[derive(Drop)]
 struct FlagReplies<'a> {
     inner: MemoryReplies,
@@ -232,7 +232,7 @@ impl<'a> Gate for HoldingGate<'a> {
     }
 }
 
-/// What two workers left that served one connection each.
+/// The result of two workers that served one connection each.
 #[derive(Drop)]
 struct Served {
     status: u8,
@@ -244,7 +244,7 @@ struct Served {
     both: bool,
 }
 
-// Two workers serve one connection each, where the first call of one is held until the other was answered.
+// Two workers serve one connection each. The first call of one is held until the other was answered.
 fn beside<R: Threads + Wait + Sync>(rt: &R, alloc: Global, held: u32) -> Result<Served, Fail> {
     let answered = AtomicU64::new(0);
     let gate = HoldingGate {

@@ -31,7 +31,7 @@ fn made_desk(alloc: Global) -> Result<Desk<MemoryDisk, ListClock>, Fail> {
     Desk::open(alloc, disk, clock, 1 << 30).map_err(|_| Fail::from("not opened"))
 }
 
-// A connection to a port of this machine, by which these bytes were sent and no more will be.
+// A connection to a port of this machine that has sent these bytes and sends no more.
 fn connected<N: Net<Listener = TcpListener, Stream = TcpStream>, B: Binder + Drop>(
     net: &N,
     port: &TcpPort<B>,
@@ -48,14 +48,14 @@ fn connected<N: Net<Listener = TcpListener, Stream = TcpStream>, B: Binder + Dro
     Ok(stream)
 }
 
-// The system keeps what a client sent before its connection is taken, so one thread is enough.
+// The system keeps what a client sends before its connection is accepted, so one thread is enough.
 #[test]
 fn a_port_of_the_network_serves_connections(rt: HostRuntime) -> Result<(), Fail> {
     let alloc = rt.alloc();
     let mut port = TcpPort::new(&rt);
     assert!(rt; port.listen(&rt, alloc, "127.0.0.1:0").is_ok());
     let mut first = connected(&rt, &port, &[PUT, GET])?;
-    // Its peer is gone before it is served.
+    // This client is gone before it is served.
     let gone = connected(&rt, &port, &[GET, GET, GET])?;
     drop(gone);
     let mut last = connected(&rt, &port, &[GET])?;

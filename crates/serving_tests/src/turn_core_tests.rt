@@ -12,7 +12,7 @@ use std::test::Fail;
 use std::thread::{Threads, join};
 use turn_core::{Pass, Turned, Turns};
 
-/// Says how many calls there were.
+/// Returns how many calls there were.
 #[derive(Drop)]
 struct Counter {
     count: u64,
@@ -39,7 +39,7 @@ impl Turned for Counter {
     }
 }
 
-// Makes each hundredth call so long that a pass which waits for it parks.
+// Makes every hundredth call so long that a pass which waits for it parks.
 fn linger(count: u64) {
     if count % 100 != 0 {
         return;
@@ -49,7 +49,7 @@ fn linger(count: u64) {
     }
 }
 
-// Takes some turns, and gives what was told beside the pass.
+// Takes some turns, and returns the answers with the pass.
 fn take_turns<R: Wait>(
     rt: &R,
     turns: &Turns<Counter>,
@@ -65,7 +65,7 @@ fn take_turns<R: Wait>(
     (told, pass)
 }
 
-// The calls that each of two threads makes.
+// Each of two threads takes one turn. Returns the two answers.
 fn each_takes_turns<T: Turned + Send, R: Threads + Wait + Sync>(
     rt: &R,
     turns: &Turns<T>,
@@ -90,7 +90,7 @@ where
     )
 }
 
-// Three calls by one pass, and one by another that is split off and met again.
+// Three calls by one pass, and one by another that is split off and rejoined.
 fn three_and_one<R: Wait>(rt: &R, turns: &Turns<Counter>, pass: &mut Pass<Counter>) -> [u64; 4]
     requires own { IsPassOf turns.now pass.old }
     requires new { view pass.old ≡ newcomer (record { count = 0 }) }
@@ -153,7 +153,7 @@ fn counts_from_one(told: &[u64]) -> bool {
         .all(|(i, told)| *told == (i as u64).wrapping_add(1))
 }
 
-// Two threads take 10,000 turns each, and each of the numbers up to 20,000 is told once.
+// Two threads take 10,000 turns each, and each of the numbers up to 20,000 is returned once.
 #[test]
 fn two_threads_are_told_each_number_once(rt: HostRuntime) -> Result<(), Fail> {
     let first_told = vec![in rt.alloc(); 0; 10_000]?;

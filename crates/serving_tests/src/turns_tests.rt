@@ -25,10 +25,10 @@ const EMPTY: &[u8] = b"\xA5METERJRN1\x00";
 // 2024-01-01 00:00 UTC.
 const NEW_YEAR: u64 = 1_704_067_200_000;
 
-// The asker that makes the bucket.
+// The number of the asker that makes the bucket.
 const MAKER: u32 = 1;
 
-// The asker that asks for it.
+// The number of the asker that asks for it.
 const VIEWER: u32 = 2;
 
 type Said = Result<Acked, DeskFault>;
@@ -74,7 +74,7 @@ impl Gate for HoldingGate {
     }
 }
 
-/// One who asks once: its seat at the turns, the gate of all seats, its ask, and what was said.
+/// An asker with one ask: its seat at the turns, the gate of all seats, its ask, and the answer.
 #[derive(Drop)]
 struct Asker<'a, D: Disk + Drop, C: Clock + Drop, R: Wait> {
     seated: Seated<'a, D, C, HoldingGate, R>,
@@ -103,7 +103,7 @@ impl<'a, D: Disk + Drop, C: Clock + Drop, R: Wait> Asker<'a, D, C, R> {
         self.gate.answered.store(1, Ordering::SeqCst);
     }
 
-    // Its pass, and what was said.
+    // Its pass, and the answer.
     fn leave(self) -> (Pass<Desk<D, C>>, Said)
         requires { IsSome self.said }
         ensures own { IsPassAt self.entry.seated.turns result.0 }
@@ -137,7 +137,7 @@ where
     thread::for_each_mut(rt, askers, threads, &|_, asker| asker.ask_once());
 }
 
-// Two askers, of which the second has a pass that is split off. The pass comes back only for want of memory.
+// Two askers; the second has a pass that is split off. Only if memory runs out is the pass given back.
 fn seat<'a, D: Disk + Drop, C: Clock + Drop, R: Wait>(
     rt: &'a R,
     alloc: Global,
@@ -182,8 +182,8 @@ fn part<'a, D: Disk + Drop, C: Clock + Drop, R: Wait>(
     (one, two)
 }
 
-// What two asks were told, each by one turn in a thread of its own, and the desk after them: where both calls lead it,
-// one after the other. None only for want of memory.
+// The answers to two asks, each by one turn in a thread of its own, and the desk to which both calls lead, one after
+// the other. None only if memory ran out.
 fn both_asked<D, C, R>(
     rt: &R,
     alloc: Global,
@@ -224,7 +224,7 @@ fn made_desk(alloc: Global) -> Result<Desk<MemoryDisk, ListClock>, Fail> {
     Desk::open(alloc, disk, clock, 1 << 30).map_err(|_| Fail::from("not opened"))
 }
 
-// Whether the bucket was shown where one asker makes it, another asks for it, and the gate holds one of them.
+// Whether the bucket is shown if one asker makes it, another asks for it, and the gate holds one of them.
 fn is_shown<R: Threads + Wait + Sync>(rt: &R, alloc: Global, held: u32) -> Result<bool, Fail> {
     let make = Ask::Command(Command::CreateBucket {
         bucket: BucketName::read(alloc, "logs")?,
@@ -239,7 +239,7 @@ fn is_shown<R: Threads + Wait + Sync>(rt: &R, alloc: Global, held: u32) -> Resul
         return Err(Fail::from("not answered"));
     };
     let (mut disk, _, _) = desk.finish();
-    // The end gate stands at 10 of an empty journal, and 20 bytes further behind the bucket.
+    // The end gate of an empty journal is at 10, and 20 bytes later after the bucket.
     if disk.length(FileNo::Journal)? != 31 || made.position() != 30 || !gate.let_both_through() {
         return Err(Fail::from("not both asked once"));
     }
@@ -250,13 +250,13 @@ fn is_shown<R: Threads + Wait + Sync>(rt: &R, alloc: Global, held: u32) -> Resul
     }
 }
 
-// A bucket is shown exactly where the call that made it stands before the one that asks for it.
+// A bucket is shown if and only if the call that makes it comes before the one that asks for it.
 #[test]
 fn a_bucket_is_shown_once_it_was_made(rt: HostRuntime) -> Result<(), Fail> {
     for _ in 0..20 {
         assert!(rt; is_shown(&rt, rt.alloc(), VIEWER)?);
         assert!(rt; !is_shown(&rt, rt.alloc(), MAKER)?);
-        // No one is held: whoever comes first.
+        // Neither is held: the order is open.
         is_shown(&rt, rt.alloc(), 0)?;
     }
     Ok(())
