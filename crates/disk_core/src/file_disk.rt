@@ -178,11 +178,7 @@ impl<F: DiskFile> FileDisk<F> {
     }
 }
 
-#[tactic(auto, using(
-    crate::proofs::Asked::length_then,
-    crate::proofs::Asked::bytes_then,
-    crate::proofs::Asked::done_then
-))]
+#[tactic(auto, using(crate::proofs::Asked::asked_then))]
 impl<F: DiskFile> Disk for FileDisk<F> {
     ghost tells = { false };
 
