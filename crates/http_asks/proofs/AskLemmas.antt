@@ -17,7 +17,7 @@ use Rattle.http_asks.specs.Meaning.{Refused, in_body, in_rules, in_tariff}
 use Rattle.http_asks.specs.declared.bad.Fault.{Fault}
 use Rattle.http_asks.specs.declared.bad.Fault.TheVariants as faults
 
--- ---- a fault is told, but for want of memory
+-- ---- a fault is reported, unless memory ran out
 
 pub body_told : (fault : BodyFault) → (fault ≡ bodies.NoMemory → ⊥) → IsSomeAnd (body_flaw_of fault) (λ (flaw : BodyFlaw). option_map in_body (body_flaw_of fault) ≡ Some (in_body flaw))
 body_told (bodies.BadBody field) told = refl

@@ -99,7 +99,7 @@ open_target target uri line = record {
 cut_in_target : Messages (codes "GET /tar") (refused CutShort ∷ [])
 cut_in_target = inr (record { some = omega arith; unsettled = open_unsettled (codes "GET /tar") (open_target (codes "/tar") refl refl) (omega arith) }, refl, refl)
 
--- so many letters
+-- this many letters
 letters_pass : (test : ℕ → Bool) (n : ℕ) → test 97 ≡ true → list_all test (replicate n 97) ≡ true
 letters_pass test zero is = refl
 letters_pass test (suc n) is = ap (λ (b : Bool). b && list_all test (replicate n 97)) is ∙ letters_pass test n is
