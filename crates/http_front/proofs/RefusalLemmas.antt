@@ -60,7 +60,7 @@ module _ {W : Type 0} (w : sinks.Ghosts W) where
       subst (λ (end : SessionEnd). IsRefusedBy w old new broken (Err end)) (sym front.0)
       (inl (subst (SaysFront w old new) is front.1))
 
-  -- want of memory, said in place of a refusal
+  -- said in place of a refusal: memory ran out
   pub said_lack : (old new : W) (told : Option Refused) (end : SessionEnd) → SaysNoMemory w old new end
       → IfSome told (λ (broken : Refused). IsRefusedBy w old new broken (Err end))
   said_lack old new None end says = tt
@@ -70,7 +70,7 @@ module _ {W : Type 0} (w : sinks.Ghosts W) where
   said_lack old new (Some broken) ends.ReadFault says = absurd says
   said_lack old new (Some broken) ends.Spent says = absurd says
 
-  -- so a session ends by nothing that was read
+  -- so no session ends there with a fault of a read
   pub lack_not_read : (old new : W) (end : SessionEnd) → SaysNoMemory w old new end → end ≡ ends.ReadFault → ⊥
   lack_not_read old new end says is = subst (SaysNoMemory w old new) is says
 

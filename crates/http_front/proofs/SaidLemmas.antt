@@ -8,7 +8,7 @@ use Rattle.http_front.specs.declared.replies.Replies as sinks
 use Rattle.http_front.specs.Session.{IsLong}
 use Rattle.http_front.specs.Talk.{IsSaid, SaysNoMemory}
 
--- want of memory, said in place of a long answer
+-- said in place of a long answer: memory ran out
 pub said_instead : {W : Type 0} (w : sinks.Ghosts W) (old new : W) (told : Result Answer DeskFault) (end : SessionEnd) → IsLong told → SaysNoMemory w old new end → IsSaid w old new told (Err end)
 said_instead w old new told ends.NoMemory long says = inr (long, says)
 said_instead w old new told ends.WriteFault long says = inr (long, says)

@@ -299,7 +299,7 @@ held_ahead None left held = tt
 held_ahead (Some rest) None held = absurd (let e = held.2 in cc)
 held_ahead (Some rest) (Some left) held = (held.0, omega (arith, held.1), let e = held.2 in cc)
 
--- what is read behind a refusal: for a request what is held with it, and for a framing that is refused a message at most
+-- what is read after a refusal: after a request only what is held with it, after a refused framing at most one message
 abbrev Reaches : Refused → Option ℕ → Option (List ℕ) → Option (List ℕ) → Type 0
 Reaches broken total rest left =
     IsTakenAhead rest left × (is_unframed (refused broken) ≡ false → IsHeldBack rest left) × (is_unframed (refused broken) ≡ true → IsUnspent total rest)
@@ -474,7 +474,7 @@ module _ {T W : Type 0} (moves : T → Ask → Result Answer DeskFault → T →
     no_moment : (a b : W) → w.moments b ≡ w.moments a → Appends (w.moments a) (w.moments b) []
     no_moment a b same = subst (λ (m : Option (List ℕ)). Appends (w.moments a) m []) (sym same) (Appends-nil (w.moments a))
 
-    -- want of memory has no moment
+    -- an answer that memory ran out has no moment
     lack_moment : (a b : W) (ask : Ask) (told : Result Answer DeskFault) → w.moments b ≡ w.moments a → told ≡ Err faults.NoMemory
         → Appends (w.moments a) (w.moments b) (moments_of (one_call ask told))
     lack_moment a b ask told same is =
@@ -527,7 +527,7 @@ module _ {T W : Type 0} (moves : T → Ask → Result Answer DeskFault → T →
           framed = refl;
         }
 
-    -- its text was cut, or that of want of memory in its place
+    -- its text was cut, or the text that memory ran out, in its place, was cut
     asked_cut : (old new : Sides T W) (a b : Option (List ℕ)) (total : Option ℕ) (ask : Ask) (last : Bool) (told : Result Answer DeskFault) → moves old.teller ask told new.teller
         → StandsItem a (asks ask) last b → IsHeldBack b remains → SaysFront w old.out new.out (text_of told) ⊎ (IsLong told × SaysFront w old.out new.out no_memory_text)
         → Session moves w old new (stream_ends a remains) total ends.WriteFault

@@ -4,21 +4,21 @@ use Rattle.std.specs.Io.KnownBytes.{Consumes, prepend_known}
 use Rattle.http_wire.specs.Held.{head_room, take_limit}
 use Rattle.http_wire.specs.Messages.{IsUnsettled, body_room}
 
--- the source gave so many bytes
+-- the source gave this many bytes
 abbrev pub GaveBytes : Option (List ℕ) → Option (List ℕ) → ℕ → Type 0
 GaveBytes left_old left_new count = (given : List ℕ) × (length given ≡ count) × Consumes left_old left_new given
 
--- the bytes of the source in all, where so many were taken and these are left
+-- the length of the whole source in bytes, if it is known: the bytes taken and those left
 abbrev pub total_of : ℕ → Option (List ℕ) → Option ℕ
 total_of taken left = option_map (λ (xs : List ℕ). taken + length xs) left
 
--- a source of so many bytes, where they are told, ends within the limit
+-- the source ends before the limit, if its length is known
 abbrev pub IsUnder : Option ℕ → Type 0
 IsUnder None = ⊤
 IsUnder (Some total) = total < take_limit
 
--- The source has so many bytes, and gave as many as the limit. `rest` is the stream after the messages; what was taken of
--- it, its front, settles nothing.
+-- As many bytes as the limit were taken from a source of this length. `rest` is the stream after the messages; its
+-- front was taken and settles nothing.
 pub record Spends (total : ℕ) (rest : List ℕ) : Type 0 where
   pub front : List ℕ
   pub more : List ℕ
@@ -26,13 +26,13 @@ pub record Spends (total : ℕ) (rest : List ℕ) : Type 0 where
   pub limit : total ≡ take_limit + length more
   pub unsettled : IsUnsettled front
 
--- the same where they are told
+-- the same if the length is known
 abbrev pub IsSpent : Option ℕ → Option (List ℕ) → Type 0
 IsSpent None rest = ⊤
 IsSpent (Some total) None = ⊥
 IsSpent (Some total) (Some rest) = Spends total rest
 
--- it is not so that as many bytes as the limit were taken, and their front settles nothing
+-- if the length is known: the limit was not reached, or the bytes taken of the rest settle something
 abbrev pub IsUnspent : Option ℕ → Option (List ℕ) → Type 0
 IsUnspent None rest = ⊤
 IsUnspent (Some total) None = ⊤
@@ -40,7 +40,7 @@ IsUnspent (Some total) (Some rest) = ¬ (Spends total rest)
 
 -- ---- what is left of a source
 
--- what a source has left at the start of a session, and at its end, where it tells
+-- what a source has left at the start of a session and at its end, if it is known
 pub record StreamEnds : Type 0 where
   pub stream : Option (List ℕ)
   pub left : Option (List ℕ)

@@ -1,4 +1,4 @@
--- The messages of a session, each with what came of it, and where they stand in the stream.
+-- The messages of a session, each with its answer or refusal, and where they are in the stream.
 use Rattle.std.specs.Prelude.{◌≡◌, ℕ, Bool, true, false, List, [], ◌∷◌, Option, Some, None, Result, Ok, Err, ⊤}
 use Rattle.std.specs.List.{flat_map}
 use Rattle.desk_core.specs.Answers.{Answer, Call}
@@ -28,7 +28,7 @@ abbrev pub moment_of : Result Answer DeskFault → List ℕ
 moment_of (Ok answer) = answer.disk_moment ∷ []
 moment_of (Err fault) = []
 
--- the moment of an exchange, where it has one
+-- the moment of an exchange, if it has one
 abbrev pub exchange_moment : Exchange → List ℕ
 exchange_moment (answered call) = moment_of call.said
 exchange_moment (refused broken) = []
@@ -43,14 +43,14 @@ is_unframed (answered call) = false
 is_unframed (refused (in_framing bad)) = true
 is_unframed (refused broken) = false
 
--- the last of them was
+-- the last of these exchanges was refused for its framing
 abbrev pub ends_unframed : List Exchange → Bool
 ends_unframed [] = false
 ends_unframed (exchange ∷ []) = is_unframed exchange
 ends_unframed (exchange ∷ next ∷ more) = ends_unframed (next ∷ more)
 
--- From the stream on these messages stand one after another, and rest is left. Only the last one may be the last of its
--- session, which is then closed.
+-- The stream begins with these messages, one after another, and rest is left. Only the last message can close the
+-- session.
 abbrev pub Goes : List ℕ → List Exchange → List ℕ → Bool → Type 0
 Goes stream [] rest closed = (rest ≡ stream) × (closed ≡ false)
 Goes stream (exchange ∷ []) rest closed = IsItem stream (exchange_meant exchange) closed rest
@@ -64,7 +64,7 @@ AreThen [] (exchange ∷ more) others = ⊥
 AreThen (found ∷ messages) (exchange ∷ more) others =
     IsMeantBy found (exchange_meant exchange) × AreThen messages more others
 
--- from a stream on that may not be told these messages stand one after another, and rest is left
+-- the stream begins with these messages, and rest is left; nothing is claimed of a stream whose bytes are unknown
 abbrev pub Hears : Option (List ℕ) → List Exchange → Option (List ℕ) → Bool → Type 0
 Hears None exchanges rest closed = ⊤
 Hears (Some stream) exchanges None closed = ⊥

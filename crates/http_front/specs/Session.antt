@@ -30,7 +30,7 @@ pub record LastLacks (exchanges : List Exchange) : Type 0 where
   pub before : NoneLacks (calls_of most)
   pub is : last.said ≡ Err NoMemory
 
--- want of memory ends the session, if its text can be said
+-- the session ends because memory ran out, if that can be said
 abbrev pub LacksBy : SessionEnd → List Exchange → Type 0
 LacksBy ends.NoMemory exchanges = NoneLacks (calls_of exchanges) ⊎ LastLacks exchanges
 LacksBy ends.WriteFault exchanges = NoneLacks (calls_of exchanges) ⊎ LastLacks exchanges
@@ -72,7 +72,7 @@ IsLong (Err fault) = ⊥
 abbrev pub EndsClosed : Spoken → Type 0
 EndsClosed spoken = (spoken.closed ≡ true) × IsSaidWhole spoken
 
--- the stream ended behind the exchanges, before as many bytes as the limit were taken
+-- the stream ended after the exchanges, before the limit was reached
 abbrev pub EndsWithStream : Option ℕ → Spoken → Type 0
 EndsWithStream total spoken = (spoken.closed ≡ false) × IsAtEnd spoken.rest × IsUnder total × IsSaidWhole spoken
 
@@ -80,7 +80,7 @@ EndsWithStream total spoken = (spoken.closed ≡ false) × IsAtEnd spoken.rest �
 abbrev pub StopsUnread : Spoken → Type 0
 StopsUnread spoken = (spoken.closed ≡ false) × IsSaidWhole spoken
 
--- as many bytes as the limit were taken, and what is left of them behind the exchanges settles nothing
+-- the limit was reached, and the bytes taken after the exchanges settle nothing
 abbrev pub StopsSpent : Option ℕ → Spoken → Type 0
 StopsSpent total spoken = (spoken.closed ≡ false) × IsSpent total spoken.rest × IsSaidWhole spoken
 
@@ -91,15 +91,15 @@ pub record CutsLast (spoken : Spoken) : Type 0 where
   pub are : spoken.exchanges ≡ spoken.whole ++ last ∷ []
   pub is : spoken.written ≡ texts spoken.whole ++ take n (exchange_text last)
 
--- All exchanges but the last were said whole. The last is an answer; memory ran out for its text, and this was said in its
--- place.
+-- All exchanges but the last were said whole. The last is an answer; memory ran out for its text, and this was said
+-- in its place.
 pub record IsUnsaid (spoken : Spoken) (instead : List ℕ) : Type 0 where
   pub last : Call
   pub are : spoken.exchanges ≡ spoken.whole ++ answered last ∷ []
   pub long : IsLong last.said
   pub is : spoken.written ≡ texts spoken.whole ++ instead
 
--- a front of the text of want of memory was said in place of the last exchange, an answer
+-- the text that memory ran out was said in part, in place of the last exchange, an answer
 abbrev pub CutsUnsaid : Spoken → Type 0
 CutsUnsaid spoken = (n : ℕ) × IsUnsaid spoken (take n no_memory_text)
 
@@ -115,8 +115,8 @@ LacksAtAnswer spoken = LastLacks spoken.exchanges × IsSaidWhole spoken
 abbrev pub LacksAtMessage : Spoken → Type 0
 LacksAtMessage spoken = NoneLacks (calls_of spoken.exchanges) × AddsText spoken no_memory_text
 
--- What was said at the end of a session, whose source has so many bytes in all: the texts of all exchanges, but for a last
--- one that is cut or lacks memory for its text. A session that is closed hears and says nothing after its last exchange.
+-- What was said by the end of a session whose source has this length: the texts of all exchanges, except a last one
+-- that is cut or lacks memory for its text. A closed session hears and says nothing after its last exchange.
 abbrev pub IsWritten : Option ℕ → SessionEnd → Spoken → Type 0
 IsWritten total ends.Ended spoken = EndsClosed spoken ⊎ EndsWithStream total spoken
 IsWritten total ends.ReadFault spoken = StopsUnread spoken
@@ -143,27 +143,27 @@ pub record AreOfStream (stream : List ℕ) (exchanges : List Exchange) (end : Se
   pub has : end ≡ ends.Ended
       → (messages : List Framed) × Messages stream messages × AreThen messages exchanges []
 
--- the same of a stream that may not be told
+-- the same of a stream whose bytes may be unknown
 abbrev pub AreOfWhole : Option (List ℕ) → List Exchange → SessionEnd → Type 0
 AreOfWhole None exchanges end = ⊤
 AreOfWhole (Some stream) exchanges end = AreOfStream stream exchanges end
 
--- The transcript of a session over what was read, of a source with so many bytes in all: what was spoken, and that it
--- was heard in the stream and written.
+-- The transcript of a session over what was read, of a source with this length: what was spoken, and that it was heard
+-- in the stream and written.
 pub record Transcript (total : Option ℕ) (read : StreamEnds) (end : SessionEnd) : Type 0 where
   pub spoken : Spoken
   pub heard : Hears read.stream spoken.exchanges spoken.rest spoken.closed
   pub is_written : IsWritten total end spoken
   pub lacked : LacksBy end spoken.exchanges
-  -- behind the last exchange at most one message is read, with what is held behind it
+  -- after the last exchange at most one message is read, with what is held after it
   pub ahead : IsTakenAhead spoken.rest read.left
-  -- behind a request with which it ends nothing is read but what was held with it
+  -- after a request with which the session ends, only bytes held with it were read
   pub behind : EndsWithRequest spoken → IsHeldBack spoken.rest read.left
-  -- where a framing was refused, not as many bytes as the limit were taken, or they settle that
+  -- if a framing was refused, the limit was not reached, or the bytes taken settle the refusal
   pub unframed : ends_unframed spoken.exchanges ≡ true → IsUnspent total spoken.rest
   -- in the messages of the whole stream
   pub of_whole : AreOfWhole read.stream spoken.exchanges end
-  -- where the source failed, each message that had come whole is an exchange
+  -- if the source failed, each message that came whole is an exchange
   pub begun : end ≡ ends.ReadFault → SettlesNothing spoken.rest read.left
 
 -- the two sides of a session beside its source: who answers, and where the replies go

@@ -40,24 +40,24 @@ no_memory_text = error_reply 500 (codes "NoMemory") 115
 
 -- ---- a message that is refused
 
--- the body of a refusal that tells a name
+-- the body of a refusal with a name
 unfoldable pub named_text : List ℕ → ℕ → List ℕ → List ℕ
 named_text error number name = compact_text (error_data error number ((codes "name", string name) ∷ []))
 
--- the body of a refusal that tells the field that is wrong
+-- the body of a refusal with the field that is wrong
 unfoldable pub field_text : List ℕ → ℕ → List ℕ → List ℕ
 field_text error number field = compact_text (error_data error number ((codes "field", string field) ∷ []))
 
--- the body of a refusal that tells the place of a rule
+-- the body of a refusal with the place of a rule
 unfoldable pub rule_text : List ℕ → ℕ → ℕ → List ℕ
 rule_text error number rule = compact_text (error_data error number ((codes "rule", whole_data rule) ∷ []))
 
--- the body of a refusal that tells a class
+-- the body of a refusal with a class
 unfoldable pub class_text : List ℕ → ℕ → Class → List ℕ
 class_text error number class =
     compact_text (error_data error number ((codes "class", string (class_name class)) ∷ []))
 
--- the body of a refusal that tells a class and the table of a tariff
+-- the body of a refusal with a class and the table of a tariff
 unfoldable pub price_text : List ℕ → ℕ → TariffTable → Class → List ℕ
 price_text error number table class =
     compact_text (error_data error number
@@ -190,7 +190,7 @@ told_text told = reply_with (told_status told) (told_body told)
 
 -- ---- a message that is asked
 
--- the body tells the place of the gate whose frame is damaged
+-- the body with the offset of the gate whose frame is damaged
 unfoldable pub damaged_text : ℕ → List ℕ
 damaged_text offset = compact_text (error_data (codes "Damaged") 112 ((codes "offset", whole_data offset) ∷ []))
 
@@ -228,7 +228,7 @@ fault_status faults.NoMemory = 500
 abbrev pub fault_text : DeskFault → List ℕ
 fault_text fault = reply_with (fault_status fault) (fault_body fault)
 
--- the text of what a call was told
+-- the text of what a call was answered
 abbrev pub text_of : Result Answer DeskFault → List ℕ
 text_of (Ok answer) = answer_text answer.reply
 text_of (Err fault) = fault_text fault
@@ -240,7 +240,7 @@ bad_text_of (Desk fault) = fault_text fault
 
 -- ---- a session
 
--- the text of an exchange: that of what its call was told, or of its refusal
+-- the text of an exchange: that of its call's answer, or of its refusal
 abbrev pub exchange_text : Exchange → List ℕ
 exchange_text (answered call) = text_of call.said
 exchange_text (refused broken) = bad_text broken

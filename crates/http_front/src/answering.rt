@@ -85,7 +85,7 @@ fn say_short<W: Replies>(out: &mut W, room: &mut [u8], acked: &Acked) -> Result<
     }
 }
 
-// Says an answer that is printed into memory of its own. Where there is none, this is said in its place.
+// Says an answer that is printed into memory of its own. If there is no memory, this is said instead.
 #[tactic(auto, using(crate::proofs::SaidLemmas::said_instead))]
 fn say_long<W: Replies>(alloc: Global, out: &mut W, acked: &Acked) -> Result<(), SessionEnd>
     requires long { ¬ (IsShort acked.now.reply) }
@@ -134,7 +134,7 @@ fn say_fault<W: Replies>(out: &mut W, room: &mut [u8], fault: DeskFault) -> Resu
     }
 }
 
-// The session goes on, or ends behind want of memory.
+// The session goes on, or ends because memory ran out.
 fn go_on_after(fault: DeskFault) -> Result<(), SessionEnd>
     ensures goes_on { (fault ≡ DeskFault.NoMemory → ⊥) → IsOk result }
     ensures ends { fault ≡ DeskFault.NoMemory → result ≡ Err SessionEnd.NoMemory }
@@ -194,7 +194,7 @@ fn say_stop<W: Replies>(out: &mut W, stop: MessageStop) -> SessionEnd
     }
 }
 
-// The session goes on, or ends behind its last message.
+// The session goes on, or ends after its last message.
 fn go_on_unless(last: bool) -> Result<(), SessionEnd>
     ensures goes_on { last ≡ false → IsOk result }
     ensures ends { last ≡ true → result ≡ Err SessionEnd.Ended }

@@ -12,16 +12,16 @@ use office_base::Failed;
 
 /// A sink of replies and other texts, with a second one for notes.
 pub trait Replies {
-    /// The bytes of the replies that were said, where they are told.
+    /// The bytes of the replies that were said, if they are known.
     ghost said: { Self → Option (List ℕ) };
 
-    /// The disk's moments of the answers among them, in order, where they are told.
+    /// The disk's moments of the answers among them, in order, if they are known.
     ghost moments: { Self → Option (List ℕ) };
 
-    /// The bytes of the other texts, where they are told.
+    /// The bytes of the other texts, if they are known.
     ghost texts: { Self → Option (List ℕ) };
 
-    /// The bytes that were noted, where they are told.
+    /// The bytes that were noted, if they are known.
     ghost noted: { Self → Option (List ℕ) };
 
     /// How often it failed.
