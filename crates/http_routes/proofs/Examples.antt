@@ -67,17 +67,17 @@ another_name = there (codes "/buckets/Tariff~/act") (act (codes "Tariff~")) refl
 a_query : (resource : Resource) → HasRoute (codes "/buckets/a?b") resource → ⊥
 a_query resource has = false≢true (sym has.no_query)
 
--- nor without a slash in front
+-- a target without a slash in front leads nowhere
 no_slash : (resource : Resource) → HasRoute (codes "buckets/a") resource → ⊥
 unfolding rows
 no_slash = nowhere (codes "buckets/a") refl
 
--- nor with another word
+-- a target with another word leads nowhere
 another_word : (resource : Resource) → HasRoute (codes "/bucket/x") resource → ⊥
 unfolding rows
 another_word = nowhere (codes "/bucket/x") refl
 
--- nor without a part
+-- a target without its last part leads nowhere
 no_bucket : (resource : Resource) → HasRoute (codes "/buckets/") resource → ⊥
 unfolding rows
 no_bucket = nowhere (codes "/buckets/") refl
@@ -86,7 +86,7 @@ no_part : (resource : Resource) → HasRoute (codes "/buckets/a/parts/7/") resou
 unfolding rows
 no_part = nowhere (codes "/buckets/a/parts/7/") refl
 
--- nor with an empty segment in its place
+-- a target with an empty segment in place of a part leads nowhere
 empty_part : (resource : Resource) → HasRoute (codes "/buckets/a/parts//1") resource → ⊥
 unfolding rows
 empty_part = nowhere (codes "/buckets/a/parts//1") refl
@@ -99,7 +99,7 @@ empty_month : (resource : Resource) → HasRoute (codes "/months//close") resour
 unfolding rows
 empty_month = nowhere (codes "/months//close") refl
 
--- nor with an empty key
+-- a target with an empty key leads nowhere
 no_key : (resource : Resource) → HasRoute (codes "/buckets/a/objects/") resource → ⊥
 unfolding rows
 no_key = nowhere (codes "/buckets/a/objects/") refl
@@ -108,7 +108,7 @@ no_key_of_a_version : (resource : Resource) → HasRoute (codes "/buckets/a/vers
 unfolding rows
 no_key_of_a_version = nowhere (codes "/buckets/a/versions/3/") refl
 
--- nor with a slash at the end
+-- a target with a slash at the end leads nowhere
 a_slash_at_the_end : (resource : Resource) → HasRoute (codes "/tariff/") resource → ⊥
 unfolding rows
 a_slash_at_the_end = nowhere (codes "/tariff/") refl
