@@ -18,7 +18,7 @@ use Rattle.tariff.specs.Prices.{Prices, one_tier}
 use Rattle.http_text.specs.Names.{month_text}
 use Rattle.http_text.specs.Replies.{body_text, answer_text, head_text, reply_with}
 
--- a tariff without prices, from so many months after January 1970 on
+-- a tariff without prices, from this many months after January 1970 on
 abbrev flat : ℕ → Prices
 flat from = record { from = from; storage = map one_tier (0 ∷ 0 ∷ 0 ∷ 0 ∷ 0 ∷ 0 ∷ []); transition = 0 ∷ 0 ∷ 0 ∷ 0 ∷ 0 ∷ [] }
 
