@@ -92,7 +92,7 @@ some_found f [] fs e is = absurd (is refl)
 some_found f (v ∷ vs) [] e is = absurd cc
 some_found f (v ∷ vs) (x ∷ fs) e is = (x, fs, refl)
 
--- the value that was found lies in the head
+-- the value that was found is within the head
 pub value_within : (p : HeaderSpan → Bool) (n : ℕ) (hs : List HeaderSpan) (s : Span) → All (IsHeaderWithin n) hs
     → found_of (map (λ (h : HeaderSpan). h.value) (filter p hs)) ≡ Once s → IsWithin n s
 value_within p n hs s all is =

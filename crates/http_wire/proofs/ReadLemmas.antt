@@ -20,7 +20,7 @@ request_in_stream old new xs ys m told =
     subst (λ (t : List ℕ). Stands t (request told.so.found) (drop m.used new.bytes ++ ys)) (sym (stream_is old new xs ys (λ bytes. HasRequest bytes new m) told))
     (stands_more (old.bytes ++ told.given) ys (request told.so.found) (drop m.used new.bytes) told.so.stands)
 
--- a refusal but of a message cut short stands in the stream
+-- a refusal stands in the stream, except that of a message cut short
 pub refusal_in_stream : (old new : Held) (xs ys : List ℕ) (bad : FramingRefusal) → (told : Gave old new (Some xs) (Some ys) (λ bytes. Stands bytes (refused bad) []))
     → Stands (old.bytes ++ xs) (refused bad) ys
 refusal_in_stream old new xs ys bad told =
