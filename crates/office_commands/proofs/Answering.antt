@@ -41,11 +41,11 @@ four_lost ends.Ended false status is four = absurd (omega (arith, is, four))
 write_four : (end : SessionEnd) (stale : Bool) (status : ℕ) → status ≡ session_exit end stale → end ≡ ends.WriteFault → status ≡ 4
 write_four end stale status is lost = is ∙ ap (λ (e : SessionEnd). session_exit e stale) lost
 
--- a fault of the input is told before all else
+-- a fault of the input has exit code 3, even if the store failed too
 pub read_three : (end : SessionEnd) (stale : Bool) (status : ℕ) → status ≡ session_exit end stale → end ≡ ends.ReadFault → status ≡ 3
 read_three end stale status is failed = is ∙ ap (λ (e : SessionEnd). session_exit e stale) failed
 
--- where all was done nothing was lost
+-- with exit code 0 no text was lost
 pub zero_lost : (end : SessionEnd) (stale : Bool) (status : ℕ) → status ≡ session_exit end stale → status ≡ 0 → end ≡ ends.WriteFault → ⊥
 zero_lost end stale status is zero lost = omega (arith, zero, write_four end stale status is lost)
 
