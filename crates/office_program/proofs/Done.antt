@@ -265,7 +265,7 @@ month_in (Some line) = month_of line
 pub same_bill : (line : Option Line) (month other : ℕ) → line ≡ Some (bill month) → line ≡ Some (bill other) → month ≡ other
 same_bill line month other first second = ap month_in (sym first ∙ second)
 
--- words that are a command line were refused for want of memory alone
+-- the words are a command line, so only running out of memory refused them
 pub refusal_six : (fault : LineFault) (line : Option Line) (asked : Line) (status : ℕ) → (fault ≡ refusals.NotALine → line ≡ None) → (fault ≡ refusals.NoMemory → status ≡ 6)
     → line ≡ Some asked → status ≡ 6
 refusal_six refusals.NotALine line asked status none six some = absurd (let no = none refl in cc)

@@ -15,13 +15,13 @@ zero_unnoted_workers workers.PortFault stale status is zero = absurd (omega (ari
 zero_unnoted_workers workers.NoMemory true status is zero = absurd (omega (arith, is, zero))
 zero_unnoted_workers workers.NoMemory false status is zero = absurd (omega (arith, is, zero))
 
--- a port that failed is told before all else
+-- a port that failed has exit code 7, even if the store failed too
 pub port_seven : (end : WorkerEnd) (stale : Bool) (status : ℕ) → status ≡ workers_exit end stale → end ≡ workers.PortFault → status ≡ 7
 port_seven workers.PortFault stale status is port = is
 port_seven workers.NoMemory stale status is port = absurd cc
 port_seven workers.Done stale status is port = absurd cc
 
--- and closing the office changes nothing of it
+-- closing the office does not change that the port failed
 port_stays : (end : WorkerEnd) (saved : Result (Unit {0}) SaveFault) → end ≡ workers.PortFault → workers_after end saved ≡ workers.PortFault
 port_stays workers.PortFault saved port = refl
 port_stays workers.NoMemory saved port = absurd cc
@@ -41,7 +41,7 @@ seven_port workers.Done (Err saves.StoreFault) false status is seven = absurd (o
 seven_port workers.Done (Err saves.NoMemory) true status is seven = absurd (omega (arith, is, seven))
 seven_port workers.Done (Err saves.NoMemory) false status is seven = absurd (omega (arith, is, seven))
 
--- a store that failed is told only so
+-- exit code 2 means that the store failed
 pub two_failed : (end : WorkerEnd) (failed : Bool) (status : ℕ) → status ≡ workers_exit end failed → status ≡ 2 → failed ≡ true
 two_failed end true status is two = refl
 two_failed workers.PortFault false status is two = absurd (omega (arith, is, two))
