@@ -40,7 +40,7 @@ all_that_is_left = record {
   in_range = in_range (segment (codes "x") ∷ remainder (codes "/y/") ∷ []) refl;
 }
 
--- a slash at the end leads nowhere, nor does an empty part, nor another word
+-- a path leads nowhere with a slash at the end, with an empty part, or with another word
 a_slash_at_the_end : LeadsNowhere rows (codes "/a/")
 a_slash_at_the_end = nowhere rows (codes "/a/") refl refl
 

@@ -32,7 +32,7 @@ adds shapes text place old new e short fine inserts =
       added = inserted.1 ∙ ap (λ (p : List ℕ). placed (p, route_from read.last place) old) read.pattern;
     }
 
--- where no row stands in the way, it is refused for want of memory alone
+-- if no row is in its way, only out of memory refuses it
 pub refused : (shapes : List Shape) (text : List ℕ) (place : ℕ) (old new : RowsOf (RouteOf ℕ)) (e : InsertError) → text ≡ pattern_text shapes
     → is_pattern shapes ≡ true → nearest (tokens_of shapes) old ≡ None → InsertsRead (parse_route text) place old new (Err e) → e ≡ OutOfMemory
 refused shapes text place old new e is fine free inserts =

@@ -21,7 +21,7 @@ between pattern text names start catch = record { pattern = pattern; text = text
 abbrev behind : List ℕ → List ℕ → List (ℕ × ℕ) → ℕ → Bool → Scan
 behind pattern text names start catch = record { pattern = pattern; text = text; names = names; name_start = start; catch_all = catch; mode = 5 }
 
--- it ends with these tokens, and so many names
+-- it ends with these tokens, and with this many names
 pub record Ends (read : Result Scan InsertError) (tokens : List ℕ) (count : ℕ) : Type 0 where
   pub last : Scan
   pub is : read ≡ Ok last
