@@ -19,8 +19,8 @@ LiesIn n Absent = ⊤
 LiesIn n (Once value) = IsWithin n value
 LiesIn n Repeated = ⊤
 
--- the parts of the head, how many bytes of the buffer the message uses, whether it is the last of its session, its
--- fields that carry a token, and its body if that is not in the buffer
+-- a message: the parts of its head, how many bytes of the buffer it uses, and whether it is the last of its session;
+-- its fields that carry a token, and its body if that is not in the buffer
 pub record MessageParts : Type 0 where
   pub head : RequestSpans
   pub used : ℕ

@@ -121,8 +121,8 @@ pub record IsCaused (line : Option Line) (old new : FaultCounts) (foreign spent 
   pub input_only : status ≡ 3 → ReadsInput line
   pub forecast_only : status ≡ 14 → IsForecastLine line
 
--- the command line was done. This includes out of memory, too long an input, a report without a tariff, a refused
--- forecast, and a month that is not billed because the keeper failed, the month is not closed, or it has other bills.
+-- the command line was done. This includes out of memory, too long an input, a report without a tariff, and a refused
+-- forecast. It also includes a month that is not billed: the keeper failed, it is not closed, or it has other bills.
 abbrev pub IsDone : Option Line → ℕ → Type 0
 IsDone line status = IsDoneExit status ⊎ ((IsBill line × ((status ≡ 11) ⊎ ((status ≡ 12) ⊎ (status ≡ 13))))
     ⊎ (IsForecastLine line × (status ≡ 14)))

@@ -61,8 +61,8 @@ fn refuse_line<W: Replies>(out: &mut W, fault: LineFault) -> u8
 ///
 /// `init` makes the journal unless it is made, and prints which of the two it was.
 ///
-/// `run` asks the clock once, opens the office over the journal, answers the messages of the input in order, each after
-/// its effect is durable, and closes the office.
+/// `run` asks the clock once and opens the office over the journal. It answers the messages of the input in order, each
+/// after its effect is durable, and closes the office.
 ///
 /// `serve` does the same with the messages of connections: it asks the clock once, opens the office, and listens.
 /// Workers answer the connections side by side, each worker up to its number of connections. Then it closes the office.
@@ -193,8 +193,8 @@ where
         (K.faults keeper.new))
         → (result.status ≡ 8 → ⊥) → IsDone (asks words.now) result.status }
 
-    // On a sound disk a closed month is billed if nothing that billing uses fails, the clock is not at its end, and the
-    // keeper has no bills of the month or just these. Only memory may run out.
+    // On a sound disk a closed month is billed if nothing that billing uses fails and the clock is not at its end. The
+    // keeper must have no bills of the month or just these. Only memory may run out.
     ensures billable { (month : ℕ) (history : List Entry) → asks words.now ≡ Some (bill_line month)
         → IsTrue D.honest → IsSound (D.state disk) → HasAcceptedHistory history (D.state disk).journal.seen
         → CanBill K.BillKeeper history (billing month keeper.old keeper.new)
