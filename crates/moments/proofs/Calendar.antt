@@ -130,7 +130,7 @@ small_case k m false e begun small = grind (arith, nat_tests)
 pub month_small : (k m : ℕ) → month_start k ≤ m → m < end_of_time → k < months
 month_small k m begun small = small_case k m _ refl begun small
 
--- so many of the first n months are over: all of those that lie before the month of the moment, and no other
+-- of the first n months exactly those have ended that are before the month of the moment
 over_before : (m k n : ℕ) → month_start k ≤ m → n ≤ k → months_over m n ≡ n
 unfolding months_over
 over_before m k zero begun le = refl
@@ -168,7 +168,7 @@ pub ruleset calendar = (first_of_month, first_day_end, first_day_begin)
 pub day_small : (d : Date) → d.day ≤ 31
 day_small d = omega (arith, d.day_in, jiff_month_bounds d.year d.month)
 
--- where a date of jiff's stands in the months
+-- the place of one of jiff's dates in the months
 counted_days : (d : Date) (n : ℕ) → epoch_day d ≡ pos n → day_count d.year d.month d.day ≡ 4_371_953 + n
 counted_days d n e =
     let a = days_from_civil-day_count d.year d.month d.day in

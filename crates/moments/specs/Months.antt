@@ -6,7 +6,7 @@ use Rattle.moments.specs.Time.{day}
 abbrev pub months : ℕ
 months = 1560
 
--- the year in which the month lies
+-- the year of the month
 abbrev pub year_of : ℕ → ℕ
 year_of month = 1970 + month / 12
 
@@ -67,7 +67,7 @@ has_day month day_of_month =
 abbrev pub midnight_in : ℕ → ℕ → ℕ
 midnight_in month day_of_month = (first_day month + (day_of_month - 1)) * day
 
--- the moment lies in the month
+-- the moment is in the month
 pub record IsInMonth (month m : ℕ) : Type 0 where
   pub begun : month_start month ≤ m
   pub not_over : m < month_end month
