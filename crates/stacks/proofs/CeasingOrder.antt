@@ -1,4 +1,4 @@
--- The noncurrent versions of a key stay in the order in which they ceased, whatever is done to the key.
+-- No change of a key's stack breaks the order in which its noncurrent versions ceased to be current.
 use Rattle.std.proofs.Common.{◌≡◌, ℕ, ◌≤◌, Bool, true, false, ◌&&◌, cond, List, [], ◌∷◌, refl, ap, ◌∙◌, arith}
 use Rattle.std.specs.Prelude.{nat_le, map, filter}
 use Rattle.std.proofs.lemmas.Bool.{and_parts, and_from}
