@@ -1,4 +1,4 @@
--- Tiers that are put into their room.
+-- Putting tiers into their array.
 use Rattle.std.proofs.Common.{◌≡◌, ◌≤◌, ◌∙◌, ap, ap₂, sym, subst, List, ◌++◌, length, drop, replicate, true}
 use Rattle.std.specs.Prelude.{nat_le}
 use Rattle.std.proofs.Math.Seq.{take-append_seam}

@@ -1,4 +1,4 @@
--- A quantity that goes through tiers.
+-- The parts of a quantity in tiers.
 use Rattle.std.proofs.Common.{◌≡◌, ◌≤◌, ◌<◌, ◌+◌, ◌*◌, ◌/◌, ◌%◌, ◌-◌, ◌^◌, ℕ, zero, min, arith, ap, refl, ◌∙◌, List, [], ◌∷◌, length, sum_by, Option, Some, None, option_map, unwrap_or, true, ◌==◌}
 use Rattle.std.specs.Prelude.{nat_lt, nat_le}
 use Rattle.std.proofs.Math.Nat.{mul-add-div_right, mul-le-mul_right, div-lt_iff_lt-mul, min-eq_left}
