@@ -1,4 +1,4 @@
--- Once there is a choice, it stays the choice at every later moment.
+-- A choice at a moment is the choice at every later moment.
 use Rattle.std.proofs.Common.{◌≡◌, ℕ, ◌<◌, ◌≤◌, List, [], ◌∷◌, refl, sym, ap, ◌∙◌, Bool, true, false, cond, arith}
 use Rattle.std.specs.Prelude.{Option, Some, None, filter, nat_le, option_map}
 use Rattle.std.specs.List.{best_of}

@@ -1,4 +1,4 @@
--- Where a version stands in its stack.
+-- The place of a version in its stack.
 use Rattle.std.proofs.Common.{◌≡◌, ℕ, ◌+◌, ◌-◌, List, drop, length, arith}
 use Rattle.std.proofs.lemmas.List.{length-drop}
 use Rattle.stacks.specs.declared.version.Version.{Version}

@@ -1,4 +1,4 @@
--- The order of the candidates is total, and the least of a list is one of them, before which none comes.
+-- The order of the candidates is total. The least of a list is one of them, and none comes before it.
 use Rattle.std.proofs.Common.{◌≡◌, ℕ, ◌<◌, List, [], ◌∷◌, length, get_or, refl, ◌∙◌, subst, Bool, false, arith, zero, suc}
 use Rattle.std.specs.Cmp.{IsTotalOrder, IsStrictWeakOrder}
 use Rattle.std.specs.List.{best_of}

@@ -1,4 +1,4 @@
--- A list of candidates has one queue.
+-- A list of candidates has only one queue.
 use Rattle.std.proofs.Common.{◌≡◌, ℕ, ◌<◌, ◌≤◌, List, [], ◌∷◌, length, get_or, refl, sym, ap, ◌∙◌, subst, Bool, true, false, not, ◌&&◌, cond, filter, map, arith, zero, suc}
 use Rattle.std.specs.Prelude.{None}
 use Rattle.std.specs.Cmp.{IsStrictWeakOrder}
