@@ -1,4 +1,4 @@
--- Taking up what comes first, key by key and upload by upload.
+-- Building the index, key by key and upload by upload.
 use Rattle.std.proofs.Common.{◌≡◌, ℕ, inl, inr, List, [], ◌∷◌, refl, sym, ap, ◌∙◌, cond, subst}
 use Rattle.std.specs.Prelude.{Option, Some, None}
 use Rattle.office_base.specs.Maps.{at_name, at_number}

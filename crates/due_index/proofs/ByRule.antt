@@ -1,4 +1,4 @@
--- A search may go rule by rule, and leave out the rules that are disabled or whose prefix does not begin the key.
+-- A search may go rule by rule, and skip rules that are disabled or whose prefix does not begin the key.
 use Rattle.std.proofs.Common.{◌≡◌, ℕ, ◌+◌, ◌<◌, ◌≤◌, ◌⊎◌, inl, inr, List, [], ◌∷◌, length, get_or, refl, sym, ap, ◌∙◌, subst, Bool, true, false, cond, ◌&&◌, ◌||◌, not, flat_map, arith, zero, suc}
 use Rattle.std.specs.Prelude.{Option, Some, None, slice_get}
 use Rattle.std.specs.List.{enumerate_from, list_all}

@@ -1,4 +1,5 @@
--- The head of the slots is the first of all that the rules ask of the bucket, so it is the choice once its moment has come.
+-- The head of the slots is the first action that the rules ask for in the bucket, so it is the choice once its moment
+-- has come.
 use Rattle.std.proofs.Common.{◌≡◌, ℕ, ◌<◌, ◌≤◌, inl, inr, List, [], ◌∷◌, refl, sym, ap, ◌∙◌, subst, Bool, true, false, cond, filter, flat_map, arith}
 use Rattle.std.specs.Prelude.{Option, Some, None, option_map, IsTrue}
 use Rattle.std.specs.Cmp.{IsStrictWeakOrder, IsTotalOrder, ranked, tied_itself}

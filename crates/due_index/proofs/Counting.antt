@@ -1,4 +1,4 @@
--- The index has one entry for each key and each upload of its bucket on which there is an action.
+-- The index has one entry for each key and each upload of its bucket that has an action.
 use Rattle.std.proofs.Common.{◌≡◌, ℕ, ◌+◌, ◌≤◌, List, [], ◌∷◌, length, refl, sym, ap, ◌∙◌, Bool, true, false, cond, ◌&&◌, filter, arith}
 use Rattle.std.specs.Prelude.{Option, Some, None, is_some, IsTrue}
 use Rattle.std.specs.Cmp.{IsTotalOrder, IsEquivalence}

@@ -1,4 +1,4 @@
--- The first of what was looked at, in whatever order.
+-- The first candidate of a search, in any order of the search.
 use Rattle.std.proofs.Common.{◌≡◌, ◌⊎◌, inl, inr, List, [], ◌∷◌, refl, sym, ◌∙◌, subst, Bool, true, false, cond}
 use Rattle.std.specs.Prelude.{Option, Some, None}
 use Rattle.due_core.specs.Choice.{comes_before, least}

@@ -1,5 +1,5 @@
--- What a rule asks of the versions of a key is what it asks of the current one, and what its removal and each of its
--- moves ask of the others.
+-- What a rule asks for the versions of a key is what it asks for the current one, and what its removal and each of its
+-- moves ask for the others.
 use Rattle.std.proofs.Common.{◌≡◌, ℕ, ◌+◌, ◌-◌, ◌<◌, ◌≤◌, ◌⊎◌, inl, inr, List, [], ◌∷◌, ◌++◌, length, get_or, refl, sym, ap, ◌∙◌, subst, Bool, true, false, cond, ◌&&◌, filter, map, take, arith, suc}
 use Rattle.std.specs.Prelude.{◌==◌, max, nat_lt, Option, Some, None, option_to_list, slice_get}
 use Rattle.std.proofs.lemmas.Bool.Decides.{nat_tests}

@@ -1,5 +1,5 @@
--- A removal or a move is looked for from the oldest version on, and no further than to the first that it takes where
--- the versions ceased in order: a newer one is due no earlier, and stands behind it where it is due at once.
+-- A removal or a move is searched from the oldest version on. If the versions ceased in order, the search ends at the
+-- first one to which it applies. A newer one is due no earlier, and comes after it if both are due at once.
 use Rattle.std.proofs.Common.{◌≡◌, ℕ, ◌+◌, ◌-◌, ◌<◌, ◌≤◌, ◌⊎◌, inl, inr, List, [], ◌∷◌, length, get_or, refl, sym, ◌∙◌, subst, Bool, true, false, cond, ◌&&◌, filter, map, arith, zero, suc}
 use Rattle.std.specs.Prelude.{max, nat_lt, nat_le, Option, unwrap_or}
 use Rattle.std.specs.Cmp.{ranked, tied_itself}

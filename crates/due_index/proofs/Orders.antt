@@ -1,4 +1,4 @@
--- The moment and the kind, as one number, decide as they do one after the other.
+-- Comparing moment and kind as one number is the same as comparing the moments first and then the kinds.
 use Rattle.std.proofs.Common.{◌≡◌, ℕ, ◌+◌, ◌*◌, ◌<◌, ◌≤◌, ◌^◌, refl, sym, Bool, true, false, arith}
 use Rattle.std.specs.Prelude.{Option, Some, None}
 use Rattle.std.specs.declared.cmp.Ordering.{Ordering}

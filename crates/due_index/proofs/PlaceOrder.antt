@@ -1,4 +1,4 @@
--- On one key the key does not decide.
+-- For actions on the same key, the key does not matter in the order.
 use Rattle.std.proofs.Common.{◌≡◌, ℕ, List, refl}
 use Rattle.std.specs.declared.cmp.Ordering.TheVariants.{Equal}
 use Rattle.std.specs.Ordering.{nat_cmp, ordering_then, is_lt}

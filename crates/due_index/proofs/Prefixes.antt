@@ -1,4 +1,4 @@
--- In the order of the keys, a prefix of a key that does not stand behind another one is that one's prefix too.
+-- A text that begins a key begins every text that is between the two in the order of the keys.
 use Rattle.std.proofs.Common.{◌≡◌, ℕ, List, [], ◌∷◌, refl, sym, subst, Bool, true, false, ◌&&◌, length, take, arith}
 use Rattle.std.specs.Prelude.{nat_eq}
 use Rattle.std.specs.Cmp.{ranked}

@@ -1,4 +1,4 @@
--- What an index has next, after the slot of one key is written, emptied or taken up.
+-- The next actions of an index after the slot of one key was written, emptied or added.
 use Rattle.std.proofs.Common.{◌≡◌, ℕ, ◌⊎◌, inl, inr, List, refl, sym, ap, ◌∙◌, subst, false}
 use Rattle.std.specs.Prelude.{Option, Some, None, IsSome}
 use Rattle.due_index.specs.Places.{candidate_of, IsOnVersion}

@@ -1,4 +1,4 @@
--- Two candidates on one key, or on one upload, of which neither comes before the other are the same.
+-- Two candidates on the same key, or on the same upload, are equal if neither comes before the other.
 use Rattle.std.proofs.Common.{◌≡◌, ℕ, ◌+◌, ◌-◌, ◌<◌, ◌++◌, cond, inl, inr, List, [], ◌∷◌, length, refl, sym, ap, ◌∙◌, subst, Bool, true, false, arith}
 use Rattle.std.specs.Prelude.{max, ◌==◌, filter, nat_lt}
 use Rattle.std.specs.declared.cmp.Ordering.{Ordering}

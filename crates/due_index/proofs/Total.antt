@@ -1,4 +1,4 @@
--- The order of the candidates is total on those of a bucket: two of which none comes before the other are the same.
+-- The order is total on the candidates of a bucket: two of which neither comes before the other are equal.
 use Rattle.std.proofs.Common.{◌≡◌, ℕ, ◌⊎◌, inl, inr, List, sym, ap, ◌∙◌, subst, flat_map, arith}
 use Rattle.std.specs.Prelude.{Option, Some, None, Result, Ok, Err, IfOk}
 use Rattle.std.specs.Ordering.{nat_cmp}

@@ -1,5 +1,6 @@
--- Where a bucket changes in one place, the index still stands for all others. What comes first on a key reads the stack
--- of that key, the rules, the versioning and the moment of their last change; on an upload, that upload in its stead.
+-- If a bucket changes in one place, the index is still right for all others. The first action on a key depends on the
+-- key's stack, the rules, the versioning and the moment of their last change. For an upload it depends on the upload in
+-- place of the stack.
 use Rattle.std.proofs.Common.{◌≡◌, ℕ, List, refl, sym, ap, ◌∙◌, subst}
 use Rattle.std.specs.Prelude.{Option, Some, None}
 use Rattle.office_base.specs.Maps.{at_name, at_number}

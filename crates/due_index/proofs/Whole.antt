@@ -1,4 +1,4 @@
--- The keys of a map rise.
+-- The keys of a map are in ascending order.
 use Rattle.std.proofs.Common.{◌≡◌, List, [], ◌∷◌, ap}
 use Rattle.std.specs.Bool.{IsTrue}
 use Rattle.std.specs.declared.cmp.Ordering.{Ordering}
