@@ -1,4 +1,4 @@
--- What the kept numbers stand for after each booking.
+-- What the kept numbers mean after each booking.
 use Rattle.std.proofs.Common.{◌≡◌, ◌≤◌, ◌+◌, ◌-◌, ◌*◌, ◌==◌, ℕ, List, [], ◌∷◌, ◌++◌, length, Bool, true, false, refl, ap, sym, ◌∙◌, arith, subst}
 use Rattle.std.specs.Prelude.{nat_lt, ◌&&◌, sum_by, if◌then◌else◌}
 use Rattle.std.specs.List.{filter}

@@ -1,4 +1,4 @@
--- The sums of the months, listed month by month and taken up entry by entry.
+-- The sums of the months: listing them month by month, and making rows of a list.
 use Rattle.std.proofs.Common.{◌≡◌, ◌≢◌, ◌≤◌, ◌<◌, ◌+◌, ◌*◌, ◌-◌, ◌==◌, ℕ, suc, zero, List, [], ◌∷◌, ◌++◌, length, get_or, take, true, refl, ap, sym, ◌∙◌, arith, subst, IsFalse}
 use Rattle.std.specs.Prelude.{◌^◌, nat_lt, ◌&&◌, sum_by, if◌then◌else◌, All}
 use Rattle.std.specs.List.{list_all}

@@ -1,4 +1,4 @@
--- What lies in the window of a month.
+-- The part of a stay inside the window of a month.
 use Rattle.std.proofs.Common.{◌≡◌, ◌≢◌, ◌≤◌, ◌<◌, ◌+◌, ◌-◌, ◌==◌, ℕ, zero, suc, Bool, true, false, refl, arith}
 use Rattle.std.specs.Prelude.{◌^◌, nat_le, if◌then◌else◌}
 use Rattle.std.proofs.lemmas.Bool.Decides.{nat_tests}
