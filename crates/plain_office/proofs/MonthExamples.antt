@@ -1,4 +1,4 @@
--- Worked examples of months, computed: what was used, what is owed, when they are closed and what they cost.
+-- Worked examples of months, computed: usage, early quantities, closing and costs.
 use Rattle.std.specs.Prelude.{◌≡◌, ℕ, zero, suc, ◌+◌, ◌*◌, List, [], ◌∷◌, refl, codes, Some, None, option_map, Ok, Err}
 use Rattle.moments.specs.Time.{day}
 use Rattle.class_rules.specs.declared.class.Class.TheVariants as class

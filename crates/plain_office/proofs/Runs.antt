@@ -1,4 +1,4 @@
--- What one command does, what its answer tells, and one entry more.
+-- What one command does, what its answer says, and one more entry.
 use Rattle.std.proofs.Common.{◌≡◌, ℕ, List, [], ◌∷◌, ◌++◌, refl, Bool, ◌&&◌, Option, Some, None, true, false, Result, Ok, Err, ap, sym, ◌∙◌, inl, inr, cond}
 use Rattle.std.proofs.Math.Bool.{and-false}
 use Rattle.std.specs.Prelude.{◌⊎◌, option_and_then, is_none}
