@@ -1,4 +1,4 @@
--- What the choice of a bucket keeps of its account when it is done.
+-- What stays true of an account when its bucket's choice is done.
 use Rattle.std.proofs.Common.{◌≡◌, ℕ, ◌≤◌, List, [], ◌∷◌, ◌++◌, refl, ap, sym, ◌∙◌, subst, true, false, inl, arith}
 use Rattle.std.specs.Prelude.{Option, Some, None}
 use Rattle.std.specs.List.{list_any}

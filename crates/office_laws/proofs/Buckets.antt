@@ -1,4 +1,4 @@
--- A bucket after the versions of a key changed: its order, that nothing is due earlier, and what it counts.
+-- A bucket after the versions of a key changed: its order, its counts, and that nothing is due earlier.
 use Rattle.std.proofs.Common.{◌≡◌, ℕ, ◌+◌, ◌<◌, ◌≤◌, List, [], ◌∷◌, length, refl, ap, false, arith, filter, flat_map}
 use Rattle.std.specs.Prelude.{Option, Some, None, unwrap_or, sum_by, max, nat_lt}
 use Rattle.std.specs.Str.{bytes_eq}

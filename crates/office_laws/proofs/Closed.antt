@@ -1,4 +1,4 @@
--- What is booked at a moment changes no reading of a month that is over by then.
+-- A booking at a moment changes no reading of a month that is over by then.
 use Rattle.std.proofs.Common.{◌≡◌, ℕ, ◌+◌, ◌-◌, ◌*◌, ◌≤◌, List, [], ◌∷◌, ◌++◌, map, length, length-append, refl, ap, ◌∙◌, Bool, true, false, ◌&&◌, cond, filter, arith, sym}
 use Rattle.std.specs.Prelude.{Option, Some, None, is_none, unwrap_or, sum_by, fold, min, max, nat_lt, nat_le}
 use Rattle.std.specs.Str.{bytes_eq}

@@ -1,4 +1,4 @@
--- Once a month is closed, no later command changes what the office answers of it.
+-- No later command changes what the office answers about a closed month.
 use Rattle.std.proofs.lemmas.Bool.{le-leb}
 use Rattle.std.proofs.Common.{◌≡◌, ℕ, ◌+◌, ◌≤◌, List, [], ◌∷◌, map, refl, ap, sym, ◌∙◌, subst, Bool, true, false, cond, arith}
 use Rattle.std.proofs.lemmas.Option.{same_Some}

@@ -1,4 +1,4 @@
--- An action that suits its bucket lowers the work that is left, and keeps the bucket tidy.
+-- An action that fits its bucket decreases the remaining work, and keeps the bucket tidy.
 use Rattle.std.proofs.Common.{◌≡◌, ℕ, ◌+◌, ◌<◌, List, [], ◌∷◌, ◌++◌, refl, sym, ap, ◌∙◌, subst, true, arith, sum_by}
 use Rattle.std.specs.Prelude.{Option, Some, None, is_some}
 use Rattle.std.specs.List.{AllByRecursion}

@@ -1,4 +1,4 @@
--- A command leaves every bucket that it does not name.
+-- A command does not change any bucket that it does not name.
 use Rattle.std.proofs.Common.{◌≡◌, ℕ, List, [], ◌∷◌, ◌++◌, refl, ap, sym, Bool, true, false, cond}
 use Rattle.std.specs.Prelude.{Option, Some, None, Ok, Err, is_some, nat_lt}
 use Rattle.std.specs.Option.{ok_or}

@@ -1,4 +1,4 @@
--- Stacks in which the ids differ: one version goes or is changed, and the others stay.
+-- Stacks in which the ids differ: one version is removed or changed, and the others stay.
 use Rattle.std.proofs.Common.{◌≡◌, ℕ, List, [], ◌∷◌, ◌++◌, refl, ap, ◌∙◌, Bool, true, false, not, ◌||◌, cond}
 use Rattle.std.specs.List.{list_any}
 use Rattle.std.proofs.lemmas.Bool.{and_parts, or_parts, or_from, and_from, not-true, not_from_false}

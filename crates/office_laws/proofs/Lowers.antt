@@ -1,4 +1,4 @@
--- The work of a stack falls as a version goes, moves or is covered by a marker.
+-- The remaining work of a stack decreases when a version is removed, moves or is covered by a marker.
 use Rattle.std.proofs.Common.{◌≡◌, ℕ, ◌+◌, ◌-◌, ◌*◌, ◌<◌, ◌≤◌, List, [], ◌∷◌, ◌++◌, ap, ◌∙◌, Bool, true, false, not, cond, arith, filter, sum_by, length}
 use Rattle.std.proofs.lemmas.List.Sums.{sum_by-cons, sum_by-append}
 use Rattle.class_rules.specs.Classes.{rank_of}

@@ -1,4 +1,4 @@
--- The open stay of a version or a part stands once among the stays, and it alone ends where that goes.
+-- A version or a part has exactly one open stay, and only that one ends when it is removed.
 use Rattle.std.proofs.Common.{◌≡◌, ℕ, List, [], ◌∷◌, ◌++◌, map, refl, ap, sym, ◌∙◌, Bool, true, false, cond, filter, length, ◌≤◌, length-append, arith}
 use Rattle.std.specs.Prelude.{Option, Some, option_map, option_to_list, is_none, None}
 use Rattle.std.specs.Str.{bytes_eq}

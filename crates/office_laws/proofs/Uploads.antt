@@ -1,4 +1,4 @@
--- A bucket and its open stays after an upload started, a part came, and an upload went.
+-- A bucket and its open stays after an upload was started, a part was put, or an upload was removed.
 use Rattle.std.proofs.Common.{◌≡◌, ℕ, ◌<◌, ◌≤◌, List, [], ◌∷◌, map, refl, ap, sym, ◌∙◌, Bool, true, false, ◌&&◌, cond, arith, ◌==◌}
 use Rattle.std.specs.Prelude.{Option, Some, None, fold, nat_le}
 use Rattle.std.specs.Str.{bytes_eq}

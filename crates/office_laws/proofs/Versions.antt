@@ -1,4 +1,4 @@
--- The versions of a key after each kind of change: what an orderly stack asks of them, which stand there, and what they count.
+-- The versions of a key after each kind of change: whether the stack is orderly, which versions it has, and its counts.
 use Rattle.std.proofs.Common.{◌≡◌, ℕ, ◌+◌, ◌<◌, ◌≤◌, List, [], ◌∷◌, length, refl, ap, sym, ◌∙◌, subst, Bool, true, false, not, ◌&&◌, cond, arith}
 use Rattle.std.specs.Prelude.{Option, Some, None, option_map, nat_le, sum_by}
 use Rattle.std.specs.List.{AllByRecursion, list_any, list_all}

@@ -1,4 +1,4 @@
--- How many lifecycle actions a bucket can still see.
+-- How many lifecycle actions a bucket can still have, as a measure that each action decreases.
 use Rattle.std.specs.Prelude.{◌≡◌, ℕ, ◌+◌, ◌-◌, true, List, [], ◌∷◌, length, sum_by}
 use Rattle.std.specs.List.{AllByRecursion}
 use Rattle.std.specs.Ordering.{nat_cmp}
