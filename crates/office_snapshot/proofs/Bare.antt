@@ -1,4 +1,4 @@
--- Whether the records of an office are orderly does not hang on its books.
+-- Whether the records of an office are orderly does not depend on its books.
 use Rattle.std.proofs.Common.{◌≡◌, ℕ, ◌+◌, ◌≤◌, List, [], ◌∷◌, map, length, refl, ap, sym, ◌∙◌, arith, subst}
 use Rattle.std.specs.Prelude.{Option, Some, None, MatchOption, IfSome, sum_by}
 use Rattle.std.specs.Bool.{IsTrue}

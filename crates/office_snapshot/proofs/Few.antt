@@ -1,4 +1,4 @@
--- How many stays the records of a snapshot ask for.
+-- How many open stays the records of a snapshot give.
 use Rattle.std.proofs.Common.{◌≡◌, ℕ, ◌+◌, ◌≤◌, List, [], ◌∷◌, map, length, arith}
 use Rattle.std.specs.Prelude.{sum_by}
 use Rattle.std.specs.List.{AllByRecursion}

@@ -1,4 +1,4 @@
--- The snapshot of an office that stands for a history is one from which an office is restored.
+-- The snapshot of an office after a history can be restored.
 use Rattle.std.proofs.Common.{◌≡◌, ℕ, ◌+◌, ◌-◌, ◌^◌, ◌<◌, ◌≤◌, List, [], ◌∷◌, map, length, refl, ap, sym, ◌∙◌, subst, arith}
 use Rattle.std.specs.Prelude.{Option, Some, None, IfSome, option_map, All, IsFalse}
 use Rattle.std.specs.List.{AllByRecursion}

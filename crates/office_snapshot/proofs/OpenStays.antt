@@ -1,4 +1,4 @@
--- The stays without an end that a bucket's records ask for, and that each item has its own among them.
+-- The open stays that a bucket's records give, and that each item has its own among them.
 use Rattle.std.proofs.Common.{◌≡◌, inl, inr, ℕ, Bool, true, false, ◌&&◌, not, cond, eqb, List, [], ◌∷◌, ◌++◌, map, Option, Some, None, refl, sym, ap, subst, ◌∙◌, arith}
 use Rattle.std.specs.Prelude.{option_map, option_to_list, if◌then◌else◌, unwrap_or, is_none}
 use Rattle.std.specs.Bool.{IsTrue}

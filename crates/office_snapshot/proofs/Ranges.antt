@@ -1,4 +1,4 @@
--- The sums of a book that a history booked are in the range from which meters go on, and of no time to come.
+-- The sums of a book after a history leave room for all bookings, and none is for a month after the last moment.
 use Rattle.std.proofs.Common.{◌≡◌, ℕ, zero, suc, ◌+◌, ◌*◌, ◌^◌, ◌<◌, ◌≤◌, List, [], ◌∷◌, map, length, get_or, refl, ap, sym, ◌∙◌, subst, Bool, true, false, cond, arith}
 use Rattle.std.specs.Prelude.{Option, Some, None, All, IsFalse, sum_by, filter, ◌==◌, ◌&&◌, if◌then◌else◌, nat_le}
 use Rattle.std.specs.List.{AllByRecursion, list_all}

@@ -1,4 +1,4 @@
--- The stays that records ask for: that each began by the last moment, and how many there are.
+-- The open stays that records give: each began by the last moment, and how many there are.
 use Rattle.std.proofs.Common.{◌≡◌, ℕ, ◌+◌, ◌≤◌, List, [], ◌∷◌, ◌++◌, map, length, refl, ap, ◌∙◌, true, arith, length-append}
 use Rattle.std.specs.Prelude.{sum_by, nat_le, ◌&&◌}
 use Rattle.std.specs.Bool.{IsTrue}

@@ -1,4 +1,4 @@
--- Books that stand for records and sums: the open stays of the records, and a book with the sums.
+-- Books made from records and sums: the open stays of the records, and a book with the sums.
 use Rattle.std.proofs.Common.{◌≡◌, ℕ, ◌+◌, ◌*◌, List, [], ◌∷◌, ◌++◌, map, Option, None, Some, true, false, refl, sym, ap, ◌∙◌, arith}
 use Rattle.std.specs.Prelude.{sum_by, is_none}
 use Rattle.std.specs.List.{flat_map, AllByRecursion}
