@@ -1,4 +1,4 @@
--- Replies that are kept anew, and what is kept of a reply that is told again.
+-- Making a store of kept replies, and what is kept of a reply that is given again.
 use Rattle.std.proofs.Common.{◌≡◌, ℕ, ◌+◌, ◌≤◌, ◌<◌, List, [], ◌∷◌, ◌++◌, map, length, refl, ap, sym, ◌∙◌, subst, Bool, true, false, cond, arith, append_assoc, Some, None}
 use Rattle.std.specs.Prelude.{◌==◌}
 use Rattle.std.specs.Str.{bytes_eq}
