@@ -192,7 +192,7 @@ not_after_2100 d n e le =
 pub year_between : (d : Date) (n : ℕ) → epoch_day d ≡ pos n → n ≤ 47_482 → (pos 1970 ≤ℤ d.year) × (d.year ≤ℤ pos 2100)
 year_between d n e le = (not_before_1970 d n e, not_after_2100 d n e le)
 
--- the days of so many milliseconds, in jiff's nanoseconds
+-- the days of this many milliseconds, in jiff's nanoseconds
 pub days_of_ms : (ms : ℕ) → int_div (pos ms *ℤ pos 1_000_000) (pos 86_400_000_000_000) ≡ pos (ms / day)
 days_of_ms ms =
     let e : ms * 1_000_000 / 86_400_000_000_000 ≡ ms / day = omega arith in
@@ -242,7 +242,7 @@ moment_in_month n ms y m d same is =
     let b = day_in_month (n / day) y m d is in
     record { begun = omega (arith, b, same); not_over = omega (arith, b, same) }
 
--- a month that has begun by 2100 is one of the office's, or the one behind them
+-- a month that has begun by 2100 is one of the office's, or the first one after them
 until_end : (k m : ℕ) (b : Bool) → nat_le k months ≡ b → month_start k ≤ m → m ≤ end_of_time → k ≤ months
 until_end k m true e begun small = grind (arith, nat_tests)
 until_end k m false e begun small =

@@ -42,7 +42,7 @@ midnight_time : is_time (codes "T00:00:00.000Z") ≡ true
 unfolding is_time begins_with_clock
 midnight_time = refl
 
--- a date with a time of midnight
+-- a date with midnight as its time
 pub date_back : (y m d : ℕ) → is_day y m d ≡ true → y ≤ 2099 → m ≤ 12 → d ≤ 31 → is_date (date_text y m d ++ codes "T00:00:00.000Z") ≡ true
 unfolding is_date
 date_back y m d is ys ms ds =
