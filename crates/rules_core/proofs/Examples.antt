@@ -41,7 +41,7 @@ after_days days to = record { when = Days days; to = to }
 abbrev moves : List Transition → Rule
 moves transitions = record (no_action (codes "r")) { transitions = transitions }
 
--- a rule that ends objects after so many days
+-- a rule that expires objects after this many days
 abbrev expires : List ℕ → ℕ → Rule
 expires id days = record (no_action id) { expiration = Some (record { days = Some days; date = None; lone_marker = false }) }
 
@@ -62,7 +62,7 @@ one_day_later : first_flaw (moves (after_days 30 StandardIa ∷ after_days 31 Gl
 unfolding first_flaw flaw_of breaks are_tags chars
 one_day_later = refl
 
--- the colder class first, whatever stands first in the list
+-- the transition to the colder class is later, but first in the list
 colder_first : first_flaw (moves (after_days 31 Glacier ∷ after_days 30 StandardIa ∷ []) ∷ []) ≡ None
 unfolding first_flaw flaw_of breaks are_tags chars
 colder_first = refl
