@@ -66,7 +66,7 @@ number_above = refl
 size_above : is_part 1 5_368_709_121 ≡ false
 size_above = refl
 
--- so many parts of 5 GiB, with numbers from this one on
+-- this many parts of 5 GiB, with numbers from this one on
 largest_parts : ℕ → ℕ → List (ℕ × Part)
 largest_parts number zero = []
 largest_parts number (suc count) = (number, new_part largest_part (at 1)) ∷ largest_parts (number + 1) count
