@@ -182,7 +182,7 @@ module _ (setting : Setting) (key : List ℕ) (stack : StackRecord) (numbered : 
 
 -- ---- the search of one removal or move
 
--- it asks this of a version with at least so many newer ones
+-- it asks this for a version with at least this many newer ones
 pub record IsFrom (setting : Setting) (entry : List ℕ × StackRecord) (numbered : ℕ × Rule) (step : Step) (i : ℕ) (c : Candidate) : Type 0 where
   pub asked : IsOfStep setting entry numbered step c
   pub from : i ≤ asked.placed.newer

@@ -221,7 +221,7 @@ module _ (index : IndexRecord) (tied : IsTied index) (key : List ℕ) (absent : 
     owned = λ s d is. more_by s d is (decide s slot);
   }
 
--- ---- so the index stands for the bucket again
+-- ---- so the index is right for the bucket again
 
 pub renewed : (old new : IndexRecord) (bucket : BucketRecord) (key : List ℕ) → StandsButKey old bucket key
     → SetsNextOnKey old new key (first_on_key bucket key) → StandsFor new bucket
@@ -257,7 +257,7 @@ module _ (index : IndexRecord) (tied : IsTied index) (key : List ℕ) (slot : �
 pub slot_there : (index : IndexRecord) (tied : IsTied index) (key : List ℕ) (slot : ℕ) → at_name key index.keys ≡ Some slot → IsSome (slot_at slot index.slots)
 slot_there index tied key slot at = let h = tied.keys key slot at in subst IsSome (sym h.there) refl
 
--- ---- want of memory
+-- ---- out of memory
 
 -- what was put into an empty slot is taken out again
 pub back_again : (index : IndexRecord) (more less : List (Option Candidate)) (slot : ℕ) (c : Candidate) → slot_at slot index.slots ≡ None

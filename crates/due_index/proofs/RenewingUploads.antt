@@ -200,7 +200,7 @@ module _ (index : IndexRecord) (tied : IsTied index) (number : ℕ) (absent : at
     owned = λ s d is. more_by s d is (decide s slot);
   }
 
--- ---- so the index stands for the bucket again
+-- ---- so the index is right for the bucket again
 
 pub renewed_upload : (old new : IndexRecord) (bucket : BucketRecord) (number : ℕ) → StandsButUpload old bucket number
     → SetsNextOnUpload old new number (first_on_upload bucket number) → StandsFor new bucket

@@ -77,7 +77,7 @@ KeepsStacks before after = (key : List ℕ) → at_name key after.stacks ≡ at_
 abbrev pub KeepsUploads : BucketRecord → BucketRecord → Type 0
 KeepsUploads before after = (number : ℕ) → at_number number after.uploads ≡ at_number number before.uploads
 
--- nothing that bears on an action changed: the index stands for the bucket after as for the one before
+-- if nothing that an action depends on changed, an index that is right for the bucket before is right for it after
 pub stands_still : (index : IndexRecord) (before after : BucketRecord) → StandsFor index before → KeepsRules before after
     → KeepsStacks before after → KeepsUploads before after → StandsFor index after
 stands_still index before after stands kept stacks uploads = record {
@@ -104,7 +104,7 @@ stands_but_upload index before after number stands kept stacks uploads = record 
   uploads = λ n apart. stands.uploads n ∙ sym (same_first_on_upload before after kept n (uploads n apart));
 }
 
--- where memory ran out, the index stands for the bucket that it stood for
+-- if memory ran out, the index is still right for the bucket before
 pub stands_kept : (old new : IndexRecord) (bucket : BucketRecord) → StandsFor old bucket → KeepsNext old new → StandsFor new bucket
 stands_kept old new bucket stands kept = record {
   table = subst (λ t. IsTable t (rules_of bucket.rules)) (sym kept.table) stands.table;

@@ -3,7 +3,7 @@ use Rattle.due_index.specs.Search.{on_key, IsFirstOf}
 use Rattle.due_index.proofs.Oldest.{IsFrom}
 use Rattle.due_index.proofs.noncurrent.step_of_key.Given as goal
 
--- the versions with at least so many newer ones were looked at
+-- the versions with at least this many newer ones were looked at
 abbrev pub invariant-loop-i : goal.invariant-loop-i
 invariant-loop-i l = record {
   within : l.i ≤ length l.of_key.versions;
