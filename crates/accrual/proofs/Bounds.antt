@@ -341,7 +341,7 @@ modest_arrived old mid next booked lines month ms first x k class bounded billed
       moves = let e = arrived.moves k (rank_of class) in let o = (modest_finished old mid booked lines month ms k class bounded begun).moves in omega (arith, e, o);
     }
 
--- no class is billed for more than 180 days
+-- no class has a minimum storage duration of more than 180 days
 pub least_small : (class : Class) → least_stay class ≤ 15_552_000_000
 least_small Standard = omega arith
 least_small StandardIa = omega arith

@@ -10,7 +10,7 @@ use Rattle.accrual.specs.declared.rows.Rows.{Rows}
 use Rattle.accrual.proofs.Cases.{by_less, by_same}
 use Rattle.accrual.specs.Rows.{nothing, kept_in, HasRowIn, IsPut, IsRowPut}
 
--- before the first row and behind the last one nothing is kept
+-- nothing is kept before the first row and after the last one
 pub kept_before : (rows : Rows) (month rank : ℕ) → month < rows.first → kept_in rows month rank ≡ nothing
 unfolding kept_in
 kept_before rows month rank less = grind (arith, nat_tests)
@@ -93,7 +93,7 @@ row_put_is old new month row has first items as_many = record {
   as_many = as_many;
 }
 
--- rows that were put in front or behind have nothing
+-- rows that were added in front or at the end have nothing
 abbrev pub IsEmptied : List (List Numbers) → Type 0
 IsEmptied more = (i r : ℕ) → get_or (get_or more i []) r nothing ≡ nothing
 
@@ -109,7 +109,7 @@ emptied n i r =
         (λ less. get_or-replicate 6 r nothing nothing less)
         (λ more. get_or-eq_default (replicate 6 nothing) nothing (omega (arith, more)))
 
--- where there are no rows nothing is kept, and they may begin anywhere
+-- if there are no rows nothing is kept, and they may begin in any month
 pub kept_none : (rows : Rows) (month rank : ℕ) → length rows.rows.items ≡ 0 → kept_in rows month rank ≡ nothing
 kept_none rows month rank none = by_less month rows.first (λ less. kept_before rows month rank less) (λ from. kept_behind rows month rank (omega (arith, from, none)))
 
