@@ -99,8 +99,8 @@ small_objects_stay : answers (after empty_office (ruled two_moves))
 unfolding to_compute
 small_objects_stay = refl
 
--- a change of the version, here of its tags, moves the moment at which its actions stand; a query shows the action
--- and does not do it
+-- a change of the version, here of its tags, moves the moment at which its actions take effect; a query shows the
+-- action and does not do it
 changed_later : answer due_midnight (query.Due logs) (after (after empty_office (ruled (expires (codes "e") 3 ∷ [])))
     (entry_at start (put 5 class.Standard) ∷ entry_at (start + 10 * day) (command.SetTags logs a id.Null tags) ∷ []))
     ≡ Ok (reply.Chosen action.Remove a (target.Version id.Null) (codes "e") (start + 10 * day) None)
@@ -156,7 +156,7 @@ marker_goes = refl
 
 -- ---- uploads
 
--- an upload is aborted so many days after its start
+-- an upload is aborted this many days after its start
 abbrev aborts : Rule
 aborts = record (no_action (codes "u")) { abort_days = Some 7 }
 
@@ -172,7 +172,7 @@ aborted = refl
 
 -- ---- lateness
 
--- a transition that is done 4.5 days late changes the billing from the moment at which it stands
+-- a transition that is done 4.5 days late changes the billing from the moment at which it takes effect
 abbrev late : ℕ
 late = 1_705_233_600_000
 

@@ -144,7 +144,7 @@ no_prices = refl
 abbrev two_prices : List Tier
 two_prices = record { upto = Some 1; price = 23_000 } ∷ record { upto = None; price = 20_000 } ∷ []
 
--- an object of so many bytes for the whole of January, with tiers from a month on
+-- an object of this many bytes for the whole of January, with tiers from a month on
 abbrev in_tiers : ℕ → ℕ → Office
 in_tiers from size = after empty_office
     (entry_at new_year (command.SetTariff (tiered from two_prices)) ∷ entry_at new_year (command.CreateBucket logs)

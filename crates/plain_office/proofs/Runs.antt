@@ -132,7 +132,7 @@ pub refusal_of : (x : Office × Answer) (p q : Office) (refusal : Refusal) → (
 refusal_of x p q refusal other (inl same) = sym same
 refusal_of x p q refusal other (inr wanting) = absurd (other (refusal_is refusal NoMemory wanting.0))
 
--- a refused command leaves the office, for want of memory too
+-- a refused command does not change the office, also if memory ran out
 pub kept_by : (t : ℕ) (token : Token) (c : Command) (p q : Office) (refusal : Refusal) → IsStep (step_with t token c p) p q (Err refusal) → q ≡ p
 kept_by t token c p q refusal (inl same) =
     ap (λ (x : Office × Answer). x.0) same ∙ with_refused t token c p refusal (sym (ap (λ (x : Office × Answer). x.1) same))
@@ -149,7 +149,7 @@ pub accepted_by : (p q : Office) (e : Entry) (reply : Reply) → is_accepted (Ok
 unfolding accept
 accepted_by p q e reply made later new is = rw (later, new, step_of (step_with e.moment e.token e.command p) p q reply is, made) refl
 
--- a command that was refused, and not for want of memory, is not accepted
+-- a command that was refused, but not because memory ran out, is not accepted
 pub refused_by : (p q : Office) (e : Entry) (refusal : Refusal) → (refusal ≡ NoMemory → ⊥) → IsStep (step_with e.moment e.token e.command p) p q (Err refusal)
     → (accept p e ≡ None) × (q ≡ p)
 unfolding accept
