@@ -91,7 +91,7 @@ found_there (first ∷ front) back one differ = by (bytes_eq one.token first.tok
 
 -- ---- how long they stand
 
--- the reply stands among the kept ones, with so many newer ones behind it
+-- the reply is among the kept ones, with this many newer ones after it
 pub record IsKeptWith (one : KeptReply) (newer : ℕ) (kept : List KeptReply) : Type 0 where
   pub front : List KeptReply
   pub back : List KeptReply
