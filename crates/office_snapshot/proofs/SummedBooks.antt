@@ -177,7 +177,7 @@ module _ (month : ℕ) (class : Class) where
   abbrev few : MonthSums → ℕ → Class → List Move
   few s i c = replicate (get_or s.moves i 0) (move_at (month_start s.month) c)
 
-  -- so many of each class
+  -- this many of each class
   each_class : (s : MonthSums) (i : ℕ) (c : Class) (b : Bool) → (s.month == month) ≡ b
       → length (filter moved (few s i c)) ≡ cond (same_class c class && b) (get_or s.moves i 0) 0
   each_class s i c b is =
