@@ -83,12 +83,6 @@ module _ {W : Type 0} (w : sinks.Ghosts W) where
     pub silent : IsSilent w old new
     pub note : IsNoted w old new (end_note NoMemory false)
 
-module _ {D C W : Type 0} (w : sinks.Ghosts W) where
-  -- Memory ran out before the words were read: disk and clock are unchanged, and nothing was printed.
-  pub record IsUnread (old new : Surroundings D C W) (status : ℕ) : Type 0 where
-    pub runs_out : RunsOut w old.out new.out status
-    pub untouched : (new.disk ≡ old.disk) × (new.clock ≡ old.clock)
-
 module _ {D C W : Type 0} (d : disks.Ghosts D) (k : clocks.Ghosts C) (w : sinks.Ghosts W) where
   -- ---- run
 

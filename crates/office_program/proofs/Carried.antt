@@ -25,13 +25,6 @@ module _ (words : Option Line) (line : Line) (read : words ≡ Some line) where
   pub is_line : (other : Line) → words ≡ Some other → line ≡ other
   is_line other is = same_Some line other (sym read ∙ is)
 
-  -- so what was carried out is what they ask for
-  pub asked_for : {S D C W K : Type 0} (s : sources.Ghosts S) (d : disks.Ghosts D) (k : clocks.Ghosts C) (w : sinks.Ghosts W) (b : keepers.Ghosts K)
-      (old new : Setting S D C W K) (status : ℕ) → CarriesOut s d k w b line old new status
-      → (other : Line) → words ≡ Some other → CarriesOut s d k w b other old new status
-  asked_for s d k w b old new status does other is =
-      subst (λ (l : Line). CarriesOut s d k w b l old new status) (is_line other is) does
-
   -- a port that was not used stays
   pub owned : {W : Type 0} (w : sinks.Ghosts W) (input port keeper : Type 0) (old new : W) (status : ℕ) → port
       → TouchesOwn w (Some line) input (Unit {0}) keeper old new status → TouchesOwn w words input port keeper old new status

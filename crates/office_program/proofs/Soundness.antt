@@ -26,7 +26,7 @@ use Rattle.office_commands.specs.Running.{Surroundings, FailsToOpen, Starts}
 -- ---- what is read has a history
 
 module _ (file : List ℕ) (history : List Entry) (has : HasAcceptedHistory history file) where
-  not_none : IsNotMade file → ⊥
+  pub not_none : IsNotMade file → ⊥
   not_none none = made_not_none file (history_made history file has.entries) none
 
   pub not_foreign_there : IsForeign file → ⊥

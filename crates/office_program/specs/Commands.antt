@@ -3,9 +3,9 @@ use Rattle.std.specs.Prelude.{◌≡◌, ◌⊎◌, ◌≤◌, ℕ, Bool, String
 use Rattle.office_base.specs.Faults.{Rose}
 use Rattle.command_line.specs.Lines.{Line, asked, init, run, serve, report, bill, forecast}
 use Rattle.http_front.specs.declared.replies.Replies as sinks
-use Rattle.office_commands.specs.Lines.{usage_note, IsReportExit, IsBillExit, IsForecastExit, IsDoneExit}
+use Rattle.office_commands.specs.Lines.{IsReportExit, IsBillExit, IsForecastExit, IsDoneExit}
 use Rattle.office_program.specs.Workers.{IsServeExit}
-use Rattle.office_commands.specs.Running.{Surroundings, IsNoted, IsSilent, SaysNoReply, NotesNothing, IsUnread}
+use Rattle.office_commands.specs.Running.{SaysNoReply, NotesNothing}
 
 -- the command line that these words are, if they are one
 abbrev pub asks : {A : Type 0} → List (String A) → Option Line
@@ -30,21 +30,6 @@ IsForecastLine line = (bucket : List ℕ) × (day : ℕ) × (line ≡ Some (fore
 -- the line reads the input, as messages or as a configuration
 abbrev pub ReadsInput : Option Line → Type 0
 ReadsInput line = (line ≡ Some run) ⊎ IsForecastLine line
-
--- ---- what is done
-
-module _ {D C W : Type 0} (w : sinks.Ghosts W) where
-  -- it is done, or memory ran out before the words were read
-  abbrev pub Obeys : Type 0 → (Surroundings D C W → Surroundings D C W → ℕ → Type 0)
-      → Surroundings D C W → Surroundings D C W → ℕ → Type 0
-  Obeys left_alone does old new status = does old new status ⊎ (IsUnread w old new status × left_alone)
-
-  -- words that are not a command line change neither disk nor clock, and print nothing but a note
-  pub record RefusesWords (old new : Surroundings D C W) (status : ℕ) : Type 0 where
-    pub status_is : status ≡ 1
-    pub untouched : (new.disk ≡ old.disk) × (new.clock ≡ old.clock)
-    pub silent : IsSilent w old.out new.out
-    pub note : IsNoted w old.out new.out usage_note
 
 -- ---- what is touched
 

@@ -1,5 +1,6 @@
 // Each command but `serve`, which needs no port.
 ghost use Rattle.std.specs.Prelude.{◌≡◌, List, Some, IsTrue};
+ghost use Rattle.disk_core.specs.Fronts.{Narrower};
 ghost use Rattle.disk_core.specs.Moments.{KeepsTo};
 ghost use Rattle.http_wire.specs.Held.{take_limit};
 ghost use Rattle.http_front.specs.Counts.{GaveBytes};
@@ -21,13 +22,14 @@ use office_commands::{End, bill, foretell, init, load, report, run, stays};
 use std::alloc::Global;
 use std::thread::Threads;
 
-// States that on a sound disk what is read has a history, and that the disk stays sound while nobody writes. It does
-// nothing. A disk is sound if whatever a crash leaves of its three files has one history.
+// States that on a sound disk what is read has a history, and that the disk stays sound and has the same images while
+// nobody writes. It does nothing. A disk is sound if whatever a crash leaves of its three files has one history.
 pub(crate) fn sound_now<D: Disk>(disk: &D)
     ensures reads { IsTrue D.honest → IsSound (D.state disk.now) → (history : List Entry)
         × HasAcceptedHistory history (D.state disk.now).journal.seen }
     ensures still { IsTrue D.honest → IsSound (D.state disk.now)
         → KeepsTo D.Disk disk.now disk.now IsSound }
+    ensures left { KeepsTo D.Disk disk.now disk.now (Narrower (D.state disk.now)) }
 {}
 
 /// Does one command of the program that needs no port: any but `serve`.

@@ -1,26 +1,14 @@
 // The program over any source, replies, disk, clock, port and keeper of bills.
-ghost use Rattle.std.specs.Prelude.{◌≡◌, ◌≤◌, ◌⊎◌, ℕ, Bool, List, Some, None, false, IsSome, IsTrue};
-ghost use Rattle.http_wire.specs.Held.{take_limit};
-ghost use Rattle.http_front.specs.Counts.{GaveBytes, stream_ends};
-ghost use Rattle.disk_core.specs.Moments.{KeepsTo};
-ghost use Rattle.office_types.specs.declared.command.Entry.{Entry};
-ghost use Rattle.desk_core.specs.Histories.{HasAcceptedHistory, IsSound};
-ghost use Rattle.meter_journal.specs.Reading.{IsForeign};
-ghost use Rattle.command_line.specs.Lines.{init as init_line, run as run_line, serve as serve_line};
-ghost use Rattle.command_line.specs.Lines.{report as report_line, explain as explain_line, gen as gen_line};
-ghost use Rattle.command_line.specs.Lines.{bill as bill_line, forecast as forecast_line};
+ghost use Rattle.std.specs.Prelude.{◌≡◌, ◌≤◌, false};
 ghost use Rattle.http_front.specs.declared.answering.SessionEnd.TheVariants.{NoMemory};
-ghost use Rattle.office_program.specs.Commands.{asks, faults, Obeys, RefusesWords, TouchesOwn, IsCaused, NoneFailed};
-ghost use Rattle.office_program.specs.Commands.{IsDone, NoBillingFailed, NoForecastingFailed};
 ghost use Rattle.office_commands.specs.Lines.{usage_note, end_note};
-ghost use Rattle.office_commands.specs.Billing.{billing, Bills, CanBill};
-ghost use Rattle.office_commands.specs.Making.{InitsAlone};
-ghost use Rattle.office_commands.specs.Explaining.{Explains};
-ghost use Rattle.office_commands.specs.Forecasting.{asking, Forecasts, CanForecast};
-ghost use Rattle.office_commands.specs.Loading.{Loads};
-ghost use Rattle.office_commands.specs.Reporting.{Reports};
-ghost use Rattle.office_commands.specs.Running.{around, IsNoted, IsSilent, Runs};
-ghost use Rattle.office_program.specs.Workers.{Connects, IsBalanced, ServesPort};
+ghost use Rattle.office_commands.specs.Running.{IsNoted, IsSilent};
+ghost use Rattle.office_program.specs.Commands.{asks};
+ghost use Rattle.office_program.specs.Program.{Obeys, Touches, HasExitCause, StaysSound};
+ghost use Rattle.office_program.specs.Program.{MustBeDone, MustBill, MustForecast};
+ghost use Rattle.office_program.specs.Survival.{Survives};
+ghost use Rattle.office_program.specs.Workers.{IsBalanced};
+ghost use Rattle.office_program.specs.Worlds.{parts, world};
 
 use crate::carrying::{carry_out, sound_now};
 use crate::serve::serve;
@@ -130,92 +118,47 @@ where
     K: BillKeeper,
     R: Threads + Wait + Sync,
 
-    // What each command does, if memory suffices to read the words.
-    ensures run { asks words.now ≡ Some run_line → Obeys W.Replies (input.new ≡ input.old)
-        (Runs D.Disk C.Clock W.Replies (input.new ≡ input.old) (stream_ends (S.left input.old) (S.left input.new)))
-        (around disk clock out.old) (around result.disk result.clock out.new) result.status }
-    ensures serve { (listen : List ℕ) (workers connections : ℕ)
-        → asks words.now ≡ Some (serve_line listen workers connections) → Obeys W.Replies (port.new ≡ port.old)
-        (ServesPort D.Disk C.Clock W.Replies (port.new ≡ port.old)
-        (Connects P.Port listen workers connections port.old port.new))
-        (around disk clock out.old) (around result.disk result.clock out.new) result.status }
-    ensures report { (month : ℕ) (as_text : Bool) → asks words.now ≡ Some (report_line month as_text)
-        → Obeys W.Replies (Unit {0}) (Reports D.Disk C.Clock W.Replies month as_text)
-        (around disk clock out.old) (around result.disk result.clock out.new) result.status }
-    ensures explain { (workers : ℕ) → asks words.now ≡ Some (explain_line workers)
-        → Obeys W.Replies (Unit {0}) (Explains D.Disk C.Clock W.Replies)
-        (around disk clock out.old) (around result.disk result.clock out.new) result.status }
-    ensures load { (number count : ℕ) → asks words.now ≡ Some (gen_line number count)
-        → Obeys W.Replies (Unit {0}) (Loads W.Replies number count)
-        (around disk clock out.old) (around result.disk result.clock out.new) result.status }
-    ensures bill { (month : ℕ) → asks words.now ≡ Some (bill_line month)
-        → Obeys W.Replies (keeper.new ≡ keeper.old)
-        (Bills D.Disk C.Clock W.Replies K.BillKeeper (billing month keeper.old keeper.new))
-        (around disk clock out.old) (around result.disk result.clock out.new) result.status }
-    ensures forecast { (bucket : List ℕ) (day : ℕ) → asks words.now ≡ Some (forecast_line bucket day)
-        → Obeys W.Replies (input.new ≡ input.old)
-        (Forecasts D.Disk C.Clock W.Replies (input.new ≡ input.old) (asking bucket day)
-        (stream_ends (S.left input.old) (S.left input.new)))
-        (around disk clock out.old) (around result.disk result.clock out.new) result.status }
-    ensures init { asks words.now ≡ Some init_line → Obeys W.Replies (Unit {0}) (InitsAlone D.Disk W.Replies)
-        (around disk clock out.old) (around result.disk result.clock out.new) result.status }
-    ensures other { asks words.now ≡ None → Obeys W.Replies (Unit {0}) (RefusesWords W.Replies)
-        (around disk clock out.old) (around result.disk result.clock out.new) result.status }
+    // The claim. On a sound disk a crash at any moment leaves what it would have left at the entry; or the office
+    // answered calls that the plain office allows, and a crash leaves the history after some number of the first calls,
+    // with each one that was acknowledged by then.
+    ensures survives { Survives (parts S.Source D.Disk C.Clock W.Replies P.Port K.BillKeeper) (asks words.now)
+        (world disk clock out.old input.old port.old keeper.old)
+        (world result.disk result.clock out.new input.new port.new keeper.new) }
+
+    // What each command does, if memory suffices to read the words. Words that are none are refused.
+    ensures does { Obeys (parts S.Source D.Disk C.Clock W.Replies P.Port K.BillKeeper) (asks words.now)
+        (world disk clock out.old input.old port.old keeper.old)
+        (world result.disk result.clock out.new input.new port.new keeper.new) result.status }
 
     // Each command touches only its own part. Whatever the exit code, each connection that the port gave was given
     // back, ended.
-    ensures only { TouchesOwn W.Replies (asks words.now) (input.new ≡ input.old) (port.new ≡ port.old)
-        (keeper.new ≡ keeper.old) out.old out.new result.status }
+    ensures only { Touches (parts S.Source D.Disk C.Clock W.Replies P.Port K.BillKeeper) (asks words.now)
+        (world disk clock out.old input.old port.old keeper.old)
+        (world result.disk result.clock out.new input.new port.new keeper.new) result.status }
     ensures balanced { IsBalanced P.Port port.old port.new }
 
     // Each status has its cause.
-    ensures causes { IsCaused (asks words.now)
-        (faults (D.fault_count disk) (S.faults input.old) (W.faults out.old) (P.faults port.old)
-        (K.faults keeper.old))
-        (faults (D.fault_count result.disk) (S.faults input.new) (W.faults out.new) (P.faults port.new)
-        (K.faults keeper.new))
-        (IsTrue D.honest → IsForeign (D.state disk).journal.seen)
-        (GaveBytes (S.left input.old) (S.left input.new) take_limit) result.status }
+    ensures causes { HasExitCause (parts S.Source D.Disk C.Clock W.Replies P.Port K.BillKeeper) (asks words.now)
+        (world disk clock out.old input.old port.old keeper.old)
+        (world result.disk result.clock out.new input.new port.new keeper.new) result.status }
 
     // A sound disk is opened, and stays sound at every moment. It is sound if whatever a crash leaves of its three
     // files has one history.
-    ensures sound { IsTrue D.honest → IsSound (D.state disk)
-        → (result.status ≡ 5 → ⊥) × KeepsTo D.Disk disk result.disk IsSound }
+    ensures sound { StaysSound (parts S.Source D.Disk C.Clock W.Replies P.Port K.BillKeeper)
+        (world disk clock out.old input.old port.old keeper.old)
+        (world result.disk result.clock out.new input.new port.new keeper.new) result.status }
 
-    // A command line is done if nothing outside fails and the clock is not at its end. The disk must be sound, or for
-    // `init`, its journal must not be foreign.
-    ensures complete { IsTrue D.honest → IsSome (asks words.now)
-        → IsSound (D.state disk)
-        ⊎ ((asks words.now ≡ Some init_line) × (IsForeign (D.state disk).journal.seen → ⊥))
-        → NoneFailed (faults (D.fault_count disk) (S.faults input.old) (W.faults out.old) (P.faults port.old)
-        (K.faults keeper.old))
-        (faults (D.fault_count result.disk) (S.faults input.new) (W.faults out.new) (P.faults port.new)
-        (K.faults keeper.new))
-        → (result.status ≡ 8 → ⊥) → IsDone (asks words.now) result.status }
-
-    // On a sound disk a closed month is billed if nothing that billing uses fails and the clock is not at its end. The
-    // keeper must have no bills of the month or just these. Only memory may run out.
-    ensures billable { (month : ℕ) (history : List Entry) → asks words.now ≡ Some (bill_line month)
-        → IsTrue D.honest → IsSound (D.state disk) → HasAcceptedHistory history (D.state disk).journal.seen
-        → CanBill K.BillKeeper history (billing month keeper.old keeper.new)
-        → NoBillingFailed (faults (D.fault_count disk) (S.faults input.old) (W.faults out.old) (P.faults port.old)
-        (K.faults keeper.old))
-        (faults (D.fault_count result.disk) (S.faults input.new) (W.faults out.new) (P.faults port.new)
-        (K.faults keeper.new))
-        → (result.status ≡ 8 → ⊥) → (result.status ≡ 0) ⊎ (result.status ≡ 6) }
-
-    // On a sound disk, what can be forecast is forecast if nothing that a forecast uses fails and the clock is not at
-    // its end. The input's bytes must be known and be a configuration, and the office must accept it as of the clock's
-    // number. Only memory may run out.
-    ensures forecastable { (bucket : List ℕ) (day : ℕ) (history : List Entry) (bytes : List ℕ)
-        → asks words.now ≡ Some (forecast_line bucket day)
-        → IsTrue D.honest → IsSound (D.state disk) → HasAcceptedHistory history (D.state disk).journal.seen
-        → S.left input.old ≡ Some bytes → CanForecast history (asking bucket day) bytes (C.last result.clock)
-        → NoForecastingFailed (faults (D.fault_count disk) (S.faults input.old) (W.faults out.old) (P.faults port.old)
-        (K.faults keeper.old))
-        (faults (D.fault_count result.disk) (S.faults input.new) (W.faults out.new) (P.faults port.new)
-        (K.faults keeper.new))
-        → (result.status ≡ 8 → ⊥) → (result.status ≡ 0) ⊎ (result.status ≡ 6) }
+    // A command line is done if nothing outside fails and the clock is not at its end; a closed month is billed; what
+    // can be forecast is forecast.
+    ensures complete { MustBeDone (parts S.Source D.Disk C.Clock W.Replies P.Port K.BillKeeper) (asks words.now)
+        (world disk clock out.old input.old port.old keeper.old)
+        (world result.disk result.clock out.new input.new port.new keeper.new) result.status }
+    ensures billable { MustBill (parts S.Source D.Disk C.Clock W.Replies P.Port K.BillKeeper) (asks words.now)
+        (world disk clock out.old input.old port.old keeper.old)
+        (world result.disk result.clock out.new input.new port.new keeper.new) result.status }
+    ensures forecastable { MustForecast (parts S.Source D.Disk C.Clock W.Replies P.Port K.BillKeeper) (asks words.now)
+        (world disk clock out.old input.old port.old keeper.old)
+        (world result.disk result.clock out.new input.new port.new keeper.new) result.status }
 {
     sound_now(&disk);
     match read_line(alloc, words) {

@@ -1,4 +1,6 @@
-use Rattle.std.proofs.Common.{◌≡◌, ⊎_elim, arith, inl, inr, refl, sym, Err, map, subst, string_bytes, Option, Some, ap, ◌∙◌}
+use Rattle.disk_core.specs.Fronts.{Narrower}
+use Rattle.disk_core.specs.Moments.{KeepsTo}
+use Rattle.std.proofs.Common.{◌≡◌, ◌⊎◌, ⊎_elim, arith, inl, inr, refl, sym, Err, map, subst, string_bytes, Option, Some, ap, ◌∙◌}
 use Rattle.command_line.specs.Lines.{line_of}
 use Rattle.command_line.specs.declared.line.CommandLine.{CommandLine}
 use Rattle.command_line.proofs.Ranges.{serve_in_range}
@@ -11,10 +13,14 @@ use Rattle.office_program.proofs.Done.{serve_none, late_none, no_billing, refusa
 use Rattle.office_program.proofs.Done.{refusal_none, refusal_known, refusal_line}
 use Rattle.office_program.proofs.Owning.{not_init}
 use Rattle.office_program.proofs.Soundness.{calls_sound, starts_sound}
+use Rattle.office_program.proofs.Surviving.{does_carried, does_survive}
 use Rattle.command_line.specs.Lines.{Line, init, run, serve, report, explain, gen, bill, forecast}
-use Rattle.office_program.specs.Carrying.{setting}
 use Rattle.office_program.specs.Commands.{faults, IsDone}
-use Rattle.office_program.proofs.Carried.{never_rose, is_line, asked_for, owned, caused, needs_no_port}
+use Rattle.office_program.specs.Program.{Obeys}
+use Rattle.office_program.specs.Survival.{AnswersSafely}
+use Rattle.office_program.specs.Worlds.{parts, world}
+use Rattle.office_program.proofs.Obeying.{refusal_obeys}
+use Rattle.office_program.proofs.Carried.{never_rose, is_line, owned, caused, needs_no_port}
 use Rattle.office_program.proofs.program.office.Goals as goal
 
 pub serve-requires-clause-few : goal.serve-requires-clause-few
@@ -33,6 +39,45 @@ returns-in-Serve-clause-sound g c tells sound =
           (around c.args.disk c.args.clock c.args.out.now) (around c.serve.result.disk c.serve.result.clock c.serve.new.out)
           c.serve.result.status sound (c.sound_now.ensures.still tells sound) c.serve.ensures.serves,
     )
+
+-- ---- what a crash leaves
+
+pub returns-in-Serve-clause-survives : goal.returns-in-Serve-clause-survives
+returns-in-Serve-clause-survives g c honest sound =
+    let all = parts g.S.Source g.D.Disk g.C.Clock g.W.Replies g.P.Port g.K.BillKeeper in
+    let has = c.sound_now.ensures.reads honest sound in
+    let old = world c.args.disk c.args.clock c.args.out.now c.args.input.now c.args.port.now c.args.keeper.now in
+    let new = world c.serve.result.disk c.serve.result.clock c.serve.new.out c.args.input.now c.serve.new.port c.args.keeper.now in
+    let line = serve c.as_str.result.now c.in-Serve.workers c.in-Serve.connections in
+    subst (λ (l : Option Line). KeepsTo g.D.Disk old.disk new.disk (Narrower (g.D.Disk.state old.disk)) ⊎ AnswersSafely all l old new)
+    (sym (c.in-Ok.ensures.read ∙ ap (λ (l : CommandLine). Some (line_of l)) c.in-Serve.is))
+    (does_survive all honest line old new c.serve.result.status sound has.0 has.1 c.sound_now.ensures.left c.serve.ensures.serves)
+
+pub returns-in-Err-clause-survives : goal.returns-in-Err-clause-survives
+returns-in-Err-clause-survives g c honest sound = inl c.sound_now.ensures.left
+
+pub returns-in_default-clause-survives : goal.returns-in_default-clause-survives
+returns-in_default-clause-survives g c honest sound =
+    let all = parts g.S.Source g.D.Disk g.C.Clock g.W.Replies g.P.Port g.K.BillKeeper in
+    let has = c.sound_now.ensures.reads honest sound in
+    let line = line_of c.in-Ok.command in
+    let old = world c.args.disk c.args.clock c.args.out.now c.args.input.now c.args.port.now c.args.keeper.now in
+    let new = world c.carry_out.result.disk c.carry_out.result.clock c.carry_out.new.out c.carry_out.new.input c.args.port.now c.carry_out.new.keeper in
+    subst (λ (l : Option Line). KeepsTo g.D.Disk old.disk new.disk (Narrower (g.D.Disk.state old.disk)) ⊎ AnswersSafely all l old new)
+    (sym c.in-Ok.ensures.read)
+    (does_survive all honest line old new c.carry_out.result.status sound has.0 has.1 c.sound_now.ensures.left
+    (does_carried all line old new c.carry_out.result.status c.carry_out.ensures.does))
+
+-- ---- what is done
+
+pub returns-in-Serve-clause-does : goal.returns-in-Serve-clause-does
+returns-in-Serve-clause-does g c =
+    let all = parts g.S.Source g.D.Disk g.C.Clock g.W.Replies g.P.Port g.K.BillKeeper in
+    let old = world c.args.disk c.args.clock c.args.out.now c.args.input.now c.args.port.now c.args.keeper.now in
+    let new = world c.serve.result.disk c.serve.result.clock c.serve.new.out c.args.input.now c.serve.new.port c.args.keeper.now in
+    subst (λ (l : Option Line). Obeys all l old new c.serve.result.status)
+    (sym (c.in-Ok.ensures.read ∙ ap (λ (l : CommandLine). Some (line_of l)) c.in-Serve.is))
+    (inl c.serve.ensures.serves)
 
 pub returns-in-Serve-clause-complete : goal.returns-in-Serve-clause-complete
 returns-in-Serve-clause-complete g c tells some good none eight =
@@ -117,77 +162,22 @@ returns-in-Err-clause-forecastable g c bucket day history bytes is tells sound h
 pub carry_out-requires-clause-no_port : goal.carry_out-requires-clause-no_port
 carry_out-requires-clause-no_port g c κs within = needs_no_port c.in-Ok.command (map string_bytes c.args.words.now) c.in-Ok.ensures.read c.in_default.not-Serve
 
-pub returns-in_default-clause-run : goal.returns-in_default-clause-run
-returns-in_default-clause-run g c is =
-    let read = c.in-Ok.ensures.read in
-    let line = line_of c.in-Ok.command in
-    let e = c.carry_out.ensures in
-    let old = setting c.args.disk c.args.clock c.args.out.now c.args.input.now c.args.keeper.now in
-    let new = setting c.carry_out.result.disk c.carry_out.result.clock c.carry_out.new.out c.carry_out.new.input c.carry_out.new.keeper in
-    inl (asked_for _ line read g.S.Source g.D.Disk g.C.Clock g.W.Replies g.K.BillKeeper old new c.carry_out.result.status e.does run is)
+pub returns-in-Err-clause-does : goal.returns-in-Err-clause-does
+returns-in-Err-clause-does g c =
+    let r = c.refuse_line-status in
+    refusal_obeys (parts g.S.Source g.D.Disk g.C.Clock g.W.Replies g.P.Port g.K.BillKeeper)
+    (world c.args.disk c.args.clock c.args.out.now c.args.input.now c.args.port.now c.args.keeper.now)
+    (world c.args.disk c.args.clock r.new.out c.args.input.now c.args.port.now c.args.keeper.now)
+    r.result c.in-Err.fault _ (λ is. c.in-Err.ensures.refused (ap Err is)) r.ensures.usage r.ensures.memory r.ensures.silent refl
 
-pub returns-in_default-clause-report : goal.returns-in_default-clause-report
-returns-in_default-clause-report g c month as_text is =
-    let read = c.in-Ok.ensures.read in
+pub returns-in_default-clause-does : goal.returns-in_default-clause-does
+returns-in_default-clause-does g c =
+    let all = parts g.S.Source g.D.Disk g.C.Clock g.W.Replies g.P.Port g.K.BillKeeper in
     let line = line_of c.in-Ok.command in
-    let e = c.carry_out.ensures in
-    let old = setting c.args.disk c.args.clock c.args.out.now c.args.input.now c.args.keeper.now in
-    let new = setting c.carry_out.result.disk c.carry_out.result.clock c.carry_out.new.out c.carry_out.new.input c.carry_out.new.keeper in
-    inl (asked_for _ line read g.S.Source g.D.Disk g.C.Clock g.W.Replies g.K.BillKeeper old new c.carry_out.result.status e.does (report month as_text) is)
-
-pub returns-in_default-clause-explain : goal.returns-in_default-clause-explain
-returns-in_default-clause-explain g c workers is =
-    let read = c.in-Ok.ensures.read in
-    let line = line_of c.in-Ok.command in
-    let e = c.carry_out.ensures in
-    let old = setting c.args.disk c.args.clock c.args.out.now c.args.input.now c.args.keeper.now in
-    let new = setting c.carry_out.result.disk c.carry_out.result.clock c.carry_out.new.out c.carry_out.new.input c.carry_out.new.keeper in
-    inl (asked_for _ line read g.S.Source g.D.Disk g.C.Clock g.W.Replies g.K.BillKeeper old new c.carry_out.result.status e.does (explain workers) is)
-
-pub returns-in_default-clause-load : goal.returns-in_default-clause-load
-returns-in_default-clause-load g c number count is =
-    let read = c.in-Ok.ensures.read in
-    let line = line_of c.in-Ok.command in
-    let e = c.carry_out.ensures in
-    let old = setting c.args.disk c.args.clock c.args.out.now c.args.input.now c.args.keeper.now in
-    let new = setting c.carry_out.result.disk c.carry_out.result.clock c.carry_out.new.out c.carry_out.new.input c.carry_out.new.keeper in
-    inl (asked_for _ line read g.S.Source g.D.Disk g.C.Clock g.W.Replies g.K.BillKeeper old new c.carry_out.result.status e.does (gen number count) is)
-
-pub returns-in_default-clause-bill : goal.returns-in_default-clause-bill
-returns-in_default-clause-bill g c month is =
-    let read = c.in-Ok.ensures.read in
-    let line = line_of c.in-Ok.command in
-    let e = c.carry_out.ensures in
-    let old = setting c.args.disk c.args.clock c.args.out.now c.args.input.now c.args.keeper.now in
-    let new = setting c.carry_out.result.disk c.carry_out.result.clock c.carry_out.new.out c.carry_out.new.input c.carry_out.new.keeper in
-    inl (asked_for _ line read g.S.Source g.D.Disk g.C.Clock g.W.Replies g.K.BillKeeper old new c.carry_out.result.status e.does (bill month) is)
-
-pub returns-in_default-clause-forecast : goal.returns-in_default-clause-forecast
-returns-in_default-clause-forecast g c bucket day is =
-    let read = c.in-Ok.ensures.read in
-    let line = line_of c.in-Ok.command in
-    let e = c.carry_out.ensures in
-    let old = setting c.args.disk c.args.clock c.args.out.now c.args.input.now c.args.keeper.now in
-    let new = setting c.carry_out.result.disk c.carry_out.result.clock c.carry_out.new.out c.carry_out.new.input c.carry_out.new.keeper in
-    inl (asked_for _ line read g.S.Source g.D.Disk g.C.Clock g.W.Replies g.K.BillKeeper old new c.carry_out.result.status e.does (forecast bucket day) is)
-
-pub returns-in_default-clause-init : goal.returns-in_default-clause-init
-returns-in_default-clause-init g c is =
-    let read = c.in-Ok.ensures.read in
-    let line = line_of c.in-Ok.command in
-    let e = c.carry_out.ensures in
-    let old = setting c.args.disk c.args.clock c.args.out.now c.args.input.now c.args.keeper.now in
-    let new = setting c.carry_out.result.disk c.carry_out.result.clock c.carry_out.new.out c.carry_out.new.input c.carry_out.new.keeper in
-    inl (asked_for _ line read g.S.Source g.D.Disk g.C.Clock g.W.Replies g.K.BillKeeper old new c.carry_out.result.status e.does init is)
-
-pub returns-in_default-clause-serve : goal.returns-in_default-clause-serve
-returns-in_default-clause-serve g c listen workers connections is =
-    let read = c.in-Ok.ensures.read in
-    let line = line_of c.in-Ok.command in
-    let e = c.carry_out.ensures in
-    let old = setting c.args.disk c.args.clock c.args.out.now c.args.input.now c.args.keeper.now in
-    let new = setting c.carry_out.result.disk c.carry_out.result.clock c.carry_out.new.out c.carry_out.new.input c.carry_out.new.keeper in
-    absurd (asked_for _ line read g.S.Source g.D.Disk g.C.Clock g.W.Replies g.K.BillKeeper old new c.carry_out.result.status e.does (serve listen workers connections) is)
+    let old = world c.args.disk c.args.clock c.args.out.now c.args.input.now c.args.port.now c.args.keeper.now in
+    let new = world c.carry_out.result.disk c.carry_out.result.clock c.carry_out.new.out c.carry_out.new.input c.args.port.now c.carry_out.new.keeper in
+    subst (λ (l : Option Line). Obeys all l old new c.carry_out.result.status) (sym c.in-Ok.ensures.read)
+    (inl (does_carried all line old new c.carry_out.result.status c.carry_out.ensures.does))
 
 pub returns-in_default-clause-only : goal.returns-in_default-clause-only
 returns-in_default-clause-only g c =

@@ -1,0 +1,112 @@
+-- What a crash leaves of each command line over a sound disk.
+use Rattle.std.proofs.Common.{◌≡◌, ◌⊎◌, ⊎_elim, inl, inr, refl, ℕ, List, Option, Some, subst, sym}
+use Rattle.std.specs.Prelude.{IsTrue}
+use Rattle.disk_core.specs.Files.{State}
+use Rattle.disk_core.specs.Fronts.{Narrower}
+use Rattle.disk_core.specs.Moments.{KeepsTo}
+use Rattle.office_types.specs.declared.command.Entry.{Entry}
+use Rattle.command_line.specs.Lines.{Line, init, run, serve, report, explain, gen, bill, forecast}
+use Rattle.desk_core.specs.Answers.{Call}
+use Rattle.desk_core.specs.Histories.{HasAcceptedHistory, IsSound}
+use Rattle.desk_core.specs.Runs.{outside, AnswersCalls}
+use Rattle.http_front.specs.Counts.{stream_ends}
+use Rattle.http_front.specs.Exchanges.{calls_of}
+use Rattle.serving.specs.Serving.{log_calls}
+use Rattle.office_commands.specs.Billing.{billing, BillsMonth}
+use Rattle.office_commands.specs.Forecasting.{asking, ForecastsBucket}
+use Rattle.office_commands.specs.Reporting.{TellsMonth}
+use Rattle.office_commands.specs.Running.{Surroundings, around, journal_limit, AnswersStream, Starts}
+use Rattle.office_program.specs.Carrying.{CarriesOut}
+use Rattle.office_program.specs.Program.{Does}
+use Rattle.office_program.specs.Survival.{AreAsked, AnswersSafely}
+use Rattle.office_program.specs.Workers.{AnswersWorkers, Connects}
+use Rattle.office_program.specs.Worlds.{World, Parts, place_of, setting_of}
+use Rattle.office_program.proofs.Soundness.{not_none}
+
+pub narrower_same : (s : State) → Narrower s s
+narrower_same s = record { journal = λ image is. is; slot0 = refl; slot1 = refl }
+
+module _ {S D C W P Source Replies K : Type 0} (g : Parts S D C W P Source Replies K) (honest : IsTrue g.disk.honest) where
+  abbrev Stays : D → D → Type 0
+  Stays old new = KeepsTo g.disk old new (Narrower (g.disk.state old))
+
+  abbrev Saves : Option Line → World S D C W P K → World S D C W P K → Type 0
+  Saves line old new = KeepsTo g.disk old.disk new.disk (Narrower (g.disk.state old.disk)) ⊎ AnswersSafely g line old new
+
+  -- the calls that an office answered are safe
+  pub answers_safely : (line : Option Line) (old new : World S D C W P K) (clock : C) (calls : List Call)
+      → AreAsked g line old new calls → IsSound (g.disk.state old.disk)
+      → AnswersCalls g.disk g.clock journal_limit (outside old.disk clock) (outside new.disk new.clock) calls
+      → AnswersSafely g line old new
+  answers_safely line old new clock calls asked sound answers =
+      let legally = answers.sound honest sound in record {
+        calls = calls;
+        are_asked = asked;
+        opened = legally.opened;
+        read = legally.disk.read;
+        history = legally.history;
+        legal = legally.legal;
+        opening = legally.disk.opening;
+        begun = legally.disk.begun;
+        before = legally.disk.before;
+        recovers = legally.disk.serves.left;
+      }
+
+  -- a command that asks the clock first
+  starts_survives : (left_alone : Type 0) (answers : ℕ → Surroundings D C W → Surroundings D C W → ℕ → Type 0)
+      (line : Option Line) (old new : World S D C W P K) (status : ℕ)
+      → ((first : ℕ) (clock : C) → answers first (around old.disk clock old.out) (place_of new) status → Saves line old new)
+      → Stays old.disk old.disk → Starts g.disk g.clock g.out left_alone answers (place_of old) (place_of new) status → Saves line old new
+  starts_survives left_alone answers line old new status saves still starts =
+      ⊎_elim
+      (λ does. ⊎_elim
+      (λ answered. saves starts.first starts.clock answered)
+      (λ refused. inl (refused.0.refused.any_moment honest)) does.1)
+      (λ ends. inl (subst (λ (disk : D). Stays old.disk disk) (sym ends.1.untouched) still)) starts.does
+
+  -- every command line
+  pub does_survive : (line : Line) (old new : World S D C W P K) (status : ℕ) → IsSound (g.disk.state old.disk)
+      → (history : List Entry) → HasAcceptedHistory history (g.disk.state old.disk).journal.seen
+      → Stays old.disk old.disk → Does g line old new status → Saves (Some line) old new
+  does_survive init old new status sound history has still does =
+      inl (does.0.unchanged honest (not_none (g.disk.state old.disk).journal.seen history has))
+  does_survive run old new status sound history has still does =
+      starts_survives (new.input ≡ old.input)
+      (λ first. AnswersStream g.disk g.clock g.out (stream_ends (g.input.left old.input) (g.input.left new.input)))
+      (Some run) old new status
+      (λ first clock a. inr (answers_safely (Some run) old new clock (calls_of a.talk.spoken.exchanges)
+      (record { end = a.end; talk = a.talk; asked = refl; said = a.said_all; stamped = a.stamped }) sound a.answers))
+      still does
+  does_survive (serve listen workers connections) old new status sound history has still does =
+      starts_survives (new.port ≡ old.port)
+      (λ first. AnswersWorkers g.disk g.clock g.out (Connects g.port listen workers connections old.port new.port))
+      (Some (serve listen workers connections)) old new status
+      (λ first clock a. inr (answers_safely (Some (serve listen workers connections)) old new clock (log_calls a.log)
+      (record { end = a.end; log = a.log; asked = refl; connects = a.connections }) sound a.answers))
+      still does
+  does_survive (report month as_text) old new status sound history has still does =
+      starts_survives (Unit {0}) (TellsMonth g.disk g.out month as_text) (Some (report month as_text)) old new status
+      (λ first clock told. inl (told.any_moment honest)) still does
+  does_survive (explain workers) old new status sound history has still (inl told) = inl (told.any_moment honest)
+  does_survive (explain workers) old new status sound history has still (inr failed) = inl (failed.refused.any_moment honest)
+  does_survive (gen number count) old new status sound history has still does =
+      inl (subst (λ (disk : D). Stays old.disk disk) (sym does.1.0) still)
+  does_survive (bill month) old new status sound history has still does =
+      starts_survives (new.keeper ≡ old.keeper) (BillsMonth g.disk g.out g.keeper (billing month old.keeper new.keeper)) (Some (bill month))
+      old new status (λ first clock told. inl (told.any_moment honest)) still does
+  does_survive (forecast bucket day) old new status sound history has still does =
+      starts_survives (new.input ≡ old.input)
+      (ForecastsBucket g.disk g.out (asking bucket day) (stream_ends (g.input.left old.input) (g.input.left new.input)))
+      (Some (forecast bucket day)) old new status (λ first clock told. inl (told.any_moment honest)) still does
+
+  -- what needs no port is done
+  pub does_carried : (line : Line) (old new : World S D C W P K) (status : ℕ)
+      → CarriesOut g.input g.disk g.clock g.out g.keeper line (setting_of old) (setting_of new) status → Does g line old new status
+  does_carried init old new status does = does
+  does_carried run old new status does = does
+  does_carried (serve listen workers connections) old new status does = absurd does
+  does_carried (report month as_text) old new status does = does
+  does_carried (explain workers) old new status does = does
+  does_carried (gen number count) old new status does = does
+  does_carried (bill month) old new status does = does
+  does_carried (forecast bucket day) old new status does = does

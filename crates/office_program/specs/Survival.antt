@@ -1,0 +1,70 @@
+-- What a crash at any moment of a command leaves: the claim of the program.
+use Rattle.std.specs.Prelude.{◌≡◌, ◌⊎◌, ℕ, ◌≤◌, List, length, Option, Some, option_map, IsTrue}
+use Rattle.std.specs.Io.KnownBytes.{Appends}
+use Rattle.disk_core.specs.Files.{State, IsImage}
+use Rattle.disk_core.specs.Fronts.{Narrower}
+use Rattle.disk_core.specs.Moments.{KeepsTo}
+use Rattle.office_types.specs.declared.command.Entry.{Entry}
+use Rattle.command_line.specs.Lines.{Line, run, serve}
+use Rattle.desk_core.specs.Answers.{Call}
+use Rattle.desk_core.specs.Calls.{Legal}
+use Rattle.desk_core.specs.Histories.{HasAcceptedHistory, IsSound}
+use Rattle.desk_core.specs.Serving.{Opened, Recovers}
+use Rattle.http_front.specs.Counts.{stream_ends}
+use Rattle.http_front.specs.Exchanges.{calls_of, moments_of}
+use Rattle.http_front.specs.Session.{Transcript}
+use Rattle.http_front.specs.declared.answering.SessionEnd.{SessionEnd}
+use Rattle.serving.specs.declared.worker.WorkerEnd.{WorkerEnd}
+use Rattle.serving.specs.Serving.{Log, log_calls}
+use Rattle.office_program.specs.Workers.{Connects}
+use Rattle.office_program.specs.Worlds.{World, Parts}
+
+module _ {S D C W P Source Replies K : Type 0} (g : Parts S D C W P Source Replies K) where
+  -- a run made these calls for the messages of the input, in order, and the output has the replies
+  pub record AreOfInput (old new : World S D C W P K) (calls : List Call) : Type 0 where
+    pub end : SessionEnd
+    pub talk : Transcript (option_map length (g.input.left old.input))
+        (stream_ends (g.input.left old.input) (g.input.left new.input)) end
+    pub asked : calls_of talk.spoken.exchanges ≡ calls
+    pub said : Appends (g.out.said old.out) (g.out.said new.out) talk.spoken.written
+    pub stamped : Appends (g.out.moments old.out) (g.out.moments new.out) (moments_of talk.spoken.whole)
+
+  -- workers made these calls for the connections of the port
+  pub record AreOfPort (listen : List ℕ) (workers connections : ℕ) (old new : World S D C W P K) (calls : List Call)
+      : Type 0 where
+    pub end : WorkerEnd
+    pub log : Log
+    pub asked : log_calls log ≡ calls
+    pub connects : Connects g.port listen workers connections old.port new.port end log
+
+  -- for whom the calls were made; other command lines make none
+  abbrev pub AreAsked : Option Line → World S D C W P K → World S D C W P K → List Call → Type 0
+  AreAsked (Some run) old new calls = AreOfInput old new calls
+  AreAsked (Some (serve listen workers connections)) old new calls =
+      AreOfPort listen workers connections old new calls
+  AreAsked line old new calls = ⊥
+
+  -- The office answered these calls, and a crash at any moment loses none that was acknowledged.
+  pub record AnswersSafely (line : Option Line) (old new : World S D C W P K) : Type 0 where
+    pub calls : List Call
+    pub are_asked : AreAsked line old new calls
+    -- it began from the history of what the disk read at the entry
+    pub opened : Opened
+    pub read : HasAcceptedHistory opened.history (g.disk.state old.disk).journal.seen
+    -- the plain office allows the calls with their answers, and has this history after them
+    pub history : List Entry
+    pub legal : Legal g.disk.honest opened.limit opened.faults calls opened.history history
+    -- a crash before the opening leaves what it would have left at the entry
+    pub opening : D
+    pub begun : opened.moment ≡ g.disk.moment opening
+    pub before : KeepsTo g.disk old.disk opening (Narrower (g.disk.state old.disk))
+    -- a crash at a later moment leaves the history after some number of the first calls, and each call that was
+    -- acknowledged by then is among them
+    pub recovers : (t : ℕ) (s : State) (image : List ℕ) → opened.moment ≤ t → t ≤ g.disk.moment new.disk
+        → g.disk.had_since new.disk t s → IsImage s.journal image → Recovers opened calls t image
+
+  -- Over a sound disk, a crash at any moment leaves what it would have left at the entry; or the office answered calls,
+  -- and none of them is lost that was acknowledged.
+  abbrev pub Survives : Option Line → World S D C W P K → World S D C W P K → Type 0
+  Survives line old new = IsTrue g.disk.honest → IsSound (g.disk.state old.disk)
+      → KeepsTo g.disk old.disk new.disk (Narrower (g.disk.state old.disk)) ⊎ AnswersSafely line old new
