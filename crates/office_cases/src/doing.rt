@@ -1,8 +1,7 @@
 // What is done in a case, in order, and what is printed of it.
-use crate::running::{given_command, given_messages, run, run_with};
-use crate::telling::{tell, tell_others};
 use anyhow::{Result, bail};
 use bill_book::{BillKeeper, MapKeeper};
+use case_runs::{given_command, given_messages, run, run_with, tell, tell_others};
 use case_table::{
     Case, Command, Session, Step, Stops, add_messages, count_images, disk_of, number_of,
     put_counted, put_lines, put_times, start, tell_replies,

@@ -2,8 +2,6 @@
 #![tactic(auto)]
 
 mod doing;
-mod running;
-mod telling;
 
 use crate::doing::tell_case;
 use anyhow::{Context, Result};

@@ -1,5 +1,5 @@
 // How the outputs of the program are printed.
-use crate::running::Ran;
+use crate::Ran;
 use case_table::{put_bytes, put_lines, tell_replies};
 use std::alloc::{AllocError, Global};
 use std::fmt::Write;
