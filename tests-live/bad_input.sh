@@ -167,4 +167,16 @@ sed 's/logs/data/' made >replies
 cat bad_head >>replies
 check 'garbage behind a request' replies longer
 
+# A word that is not UTF-8: exit code 1 and the usage.
+cp office-data/journal before
+"$program" "$(printf '\377')" </dev/null >out 2>notes
+found="status $?, journal $(journal_change), output '$(cat out)', notes '$(head -c 7 notes)'"
+if [ "$found" = "status 1, journal same, output '', notes 'usage: '" ]; then
+    passed=$((passed + 1))
+    echo "ok: a word that is not UTF-8: $found"
+else
+    failed=$((failed + 1))
+    echo "FAILED: a word that is not UTF-8: $found; wanted: status 1, journal same, and the usage"
+fi
+
 finish

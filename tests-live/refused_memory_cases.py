@@ -149,7 +149,18 @@ def look_at_bills(what, status, said, whole, kept):
     check(f"{what}: then", (0, b"already posted" if rows else b"bills"), ((it := office(["bill", "2024-01"]))[0], it[1].rpartition(b" 2 total 2")[0]))
 
 
+def look_at_init(what, status, said, whole, kept):
+    """A journal is made at once or by the next call, which finds memory."""
+    check(f"{what}: its text", whole if status == 0 else b"", said)
+    again, text, _ = office(["init"])
+    check(f"{what}: then", (0, True), (again, text in (b"made\n", b"already made\n")))
+    check(f"{what}: what the journal holds", kept, commands())
+
+
 (FOLDER / "run").mkdir()
+shutil.copytree(FOLDER / "run", FOLDER / "empty")
+refuse_each("init", FOLDER / "empty", ["init"], b"", look_at_init)
+anew(FOLDER / "empty")
 office(["init"])
 shutil.copytree(FOLDER / "run", FOLDER / "made")
 SENT = b"".join(map(message, STARTS, BODIES))
@@ -164,6 +175,7 @@ office(["run"], SENT + message(b"PUT /tariff", TARIFF))
 shutil.copytree(FOLDER / "run", FOLDER / "filled")
 refuse_each("report", FOLDER / "filled", ["report", "2024-01"], b"", look_at_text)
 refuse_each("explain", FOLDER / "filled", ["explain", "--workers", "1"], b"", look_at_text)
+refuse_each("gen", FOLDER / "filled", ["gen", "1", "20"], b"", look_at_text, most=300)
 # By a day of next year, so that what is foretold is the same whenever it is asked for.
 refuse_each("forecast", FOLDER / "filled", ["forecast", "logs", f"{time.gmtime().tm_year + 1}-12-31"],
             b'{"Rules":[{"Status":"Enabled","Filter":{"Prefix":""},"Expiration":{"Days":100}}]}', look_at_text, most=300)

@@ -8,6 +8,8 @@ mod damage_tests;
 #[cfg(test)]
 mod forgetful_tests;
 #[cfg(test)]
+mod look_tests;
+#[cfg(test)]
 mod parts;
 #[cfg(test)]
 mod sessions;

@@ -756,6 +756,9 @@ fn a_query_is_printed_as_a_reply(rt: HostRuntime) -> Result<(), Fail> {
     let mut room = [0u8; 200];
     assert!(rt; print_reply(&mut room, &acked) == Ok(MADE.len()));
     assert!(rt; room.starts_with(MADE));
+    // One byte less than the reply has.
+    let mut short = [0u8; 92];
+    assert!(rt; print_reply(&mut short, &acked).is_err());
     match print_query(alloc, &acked) {
         Ok(text) => assert!(rt; text.as_slice() == MADE),
         Err(_) => panic!(rt; "no memory"),
