@@ -30,11 +30,11 @@ its good one: an error, `None`, the end of a session, an exit code of the progra
 | Clause | the `ensures` clauses that say when the answer comes; in brackets the definitions of `specs/` by which they do |
 | | `ensures` is a clause without a name |
 | Shown by | a wrong body that the contract refuses (`CRATE/NAME.edit`, in its folder `must-fail`), a test (`FILE::NAME`), |
-| | a case of office_cases (in quotes), or a live test |
+| | a case of office_cases or office_faults (in quotes), or a live test |
 
 `NoMemory` may come wherever a call allocates. No clause says when, so its cells may be empty. `tests-live/refused_memory.sh` refuses each allocation
-of the program in turn. "**no clause**" and "**no row**" are gaps: nothing says when the answer comes, or nothing shows it. A clause about the
-contents of a disk, a source, a sink, a port or a keeper holds if the object reports them ([premises](PROOFS.md#premises)).
+of the program in turn. "**no clause**" and "**no row**" are gaps: nothing says when the answer comes, or nothing shows it; the reason follows. A
+clause about the contents of a disk, a source, a sink, a port or a keeper holds if the object reports them ([premises](PROOFS.md#premises)).
 
 `checks/calls` writes this page from the sources and from `checks/calls.txt`, which has what no source says: what shows an answer, and by which
 definition a clause names it. The gate compares it ([TESTING](TESTING.md#keep-the-page-of-public-calls-right)).
@@ -115,7 +115,7 @@ def answer(cell: table.Cell) -> str:
 def clause(it: tuple[str, tuple[str, ...]]) -> str:
     name, definitions = it
     if name == kept.NOTHING:
-        return "**no clause**"
+        return f"**no clause**: {' '.join(definitions)}"
     behind = ", ".join(f"`{one}`" for one in definitions if one != table.RESULT)
     return f"`{name}`" + (f" ({behind})" if behind else "")
 
@@ -123,7 +123,7 @@ def clause(it: tuple[str, tuple[str, ...]]) -> str:
 def showing(it: tuple[str, str]) -> str:
     kind, name = it
     short = textwrap.shorten(name, CASE_WIDTH, placeholder=" ..")
-    return {"test": f"`{name}`", "case": f"“{short}”", "edit": f"`{name}.edit`", "script": f"`{name}`"}.get(kind, "**no row**")
+    return {"test": f"`{name}`", "case": f"“{short}”", "edit": f"`{name}.edit`", "script": f"`{name}`"}.get(kind, f"**no row**: {name}")
 
 
 def summary(entries: list[table.Entry]) -> str:

@@ -1,9 +1,9 @@
-"""What shows an answer: a test, a case of office_cases, a wrong body that a contract refuses, or a live test."""
+"""What shows an answer: a test, a case of office_cases or office_faults, a wrong body that a contract refuses, or a live test."""
 import pathlib
 import re
 import typing
 
-CASES = "crates/office_cases/stdout"
+CASES = ("crates/office_cases/stdout", "crates/office_faults/stdout")
 ITEM = re.compile(r"^[ ]*(?:pub |pub\(crate\) )?(?:fn|const|static) (\w+)", re.MULTILINE)
 TEST = re.compile(r"#\[test\]\s*(?:#\[[^\n]*\]\s*)*fn (\w+)")
 
@@ -56,7 +56,8 @@ def tests_of(crate: pathlib.Path) -> typing.Iterator[tuple[str, str]]:
 
 
 def read_shown(root: pathlib.Path) -> Shown:
-    cases = re.split(r"^case: ", (root / CASES).read_text("utf-8"), flags=re.MULTILINE)[1:]
+    texts = [path.read_text("utf-8") for path in map(root.joinpath, CASES) if path.exists()]
+    cases = [it for text in texts for it in re.split(r"^case: ", text, flags=re.MULTILINE)[1:]]
     return Shown(
         {name: text for crate in sorted((root / "crates").iterdir()) for name, text in tests_of(crate)},
         {name: text for name, _, text in (it.partition("\n") for it in cases)},

@@ -39,11 +39,11 @@ class Cell(typing.NamedTuple):
 
     @property
     def lacks_clause(self) -> bool:
-        return self.clauses == ((kept.NOTHING, ()),)
+        return [name for name, _ in self.clauses] == [kept.NOTHING]
 
     @property
     def lacks_row(self) -> bool:
-        return self.shown == ((kept.NOTHING, ""),)
+        return [kind for kind, _ in self.shown] == [kept.NOTHING]
 
 
 class Entry(typing.NamedTuple):
@@ -158,7 +158,9 @@ def disk_of(entry: Entry, cell: Cell) -> str:
 def unsaid(of: Repository, call: sources.Call, cell: Cell) -> typing.Iterator[str]:
     """Why the clauses do not speak of an answer, by themselves or by their definitions."""
     if not cell.clauses:
-        yield "no clause names it; write the clause, or - if there is none"
+        yield "no clause names it; write the clause, or - (WHY) if there is none"
+    if cell.lacks_clause and not cell.clauses[0][1]:
+        yield "write why no clause names it, as - (WHY)"
     for name, named in () if cell.lacks_clause else cell.clauses:
         if name not in call.clauses:
             yield f"there is no clause '{name}'"
@@ -186,7 +188,9 @@ def is_told_by(answer: str, text: str) -> bool:
 def unshown(of: Repository, cell: Cell, rows: list[kept.Showing]) -> typing.Iterator[str]:
     """Why what is named does not show an answer."""
     if not rows and cell.is_answer:
-        yield "nothing is named that shows it; write it, or - if there is nothing"
+        yield "nothing is named that shows it; write it, or - WHY if there is nothing"
+    if cell.lacks_row and not rows[0].name:
+        yield "write why nothing shows it, as - WHY"
     word = answers.inner(cell.answer)
     for kind, given, said in rows:
         name = of.shown.named(kind, given)

@@ -136,9 +136,9 @@ yard Gate::open
   Shut | | edit yard/gate-left-open
   Broken | opens (Opens) | test gate_tests::a_shut_gate & case A gate br..
 yard Gate::number
-  None | | -
+  None | | - it is always open
 yard run
-  5 | statuses (gate_exit) | -
+  5 | statuses (gate_exit) | - it never breaks
   8 | | case A gate is shut [status 3]
 yard Key::turn
   Failed | | script tests-live/one.sh

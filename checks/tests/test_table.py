@@ -56,6 +56,7 @@ class Table(Small):
         self.assertIn("clause 'opens' does not name it", self.wrong("opens (Opens)", "opens")[0])
         self.assertIn("clause 'opens' does not name it", self.wrong("opens (Opens)", "opens (Breaks)")[0])
         self.assertIn("no clause names it", self.wrong("opens (Opens)", "")[0])
+        self.assertIn("write why no clause names it", self.wrong("opens (Opens)", "-")[0])
 
     def test_what_does_not_exist(self):
         for old, new, why in (("opens (Opens)", "closes (Opens)", "there is no clause 'closes'"), ("(Opens)", "(Kept)", "leads to no definition 'Kept'"),
@@ -70,7 +71,8 @@ class Table(Small):
         self.assertEqual([], self.wrong("A gate br..", "A gate is shut [status 3]"))
 
     def test_nothing_that_shows_an_answer(self):
-        self.assertIn("nothing is named that shows it", self.wrong("  None | | -", "  None")[0])
+        self.assertIn("nothing is named that shows it", self.wrong("  None | | - it is always open", "  None")[0])
+        self.assertIn("write why nothing shows it", self.wrong("- it is always open", "-")[0])
 
     def test_a_contract_that_changed(self):
         changed = (self.folder / "crates/yard/src/gate.rt")
@@ -115,8 +117,9 @@ class Page(Small):
         text = self.page()
         self.assertIn("| `Gate::open` | `Shut` | `shut` | `yard/gate-left-open.edit` |\n", text)
         self.assertIn("|  | `Broken` | `opens` (`Opens`) | `gate_tests::a_shut_gate`, “A gate breaks” |\n|  | `NoMemory` |  |  |\n", text)
-        self.assertIn("| `Gate::number` | `None` | `ensures` | **no row** |\n", text)
-        self.assertIn("| `run` | status 5 | `statuses` (`gate_exit`) | **no row** |\n", text)
+        self.assertIn("| `Gate::number` | `None` | `ensures` | **no row**: it is always open |\n", text)
+        self.assertIn("| `run` | status 5 | `statuses` (`gate_exit`) | **no row**: it never breaks |\n", text)
+        self.assertIn("| `Gate::number` | `None` | **no clause**: it is free | ", self.page(KEPT.replace("None | |", "None | - (it is free) |")))
         self.assertIn("No other answer: `open_all`.", text)
         self.assertIn("hold if they return: `Key::turn`.", text)
         self.assertIn("6 answers other than the good one and `NoMemory`; 0 of these have no clause, 2 no row", " ".join(text.split()))
