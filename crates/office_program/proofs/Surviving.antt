@@ -90,7 +90,7 @@ module _ {S D C W P Source Replies K : Type 0} (g : Parts S D C W P Source Repli
   does_survive (explain workers) old new status sound history has still (inl told) = inl (told.any_moment honest)
   does_survive (explain workers) old new status sound history has still (inr failed) = inl (failed.refused.any_moment honest)
   does_survive (gen number count) old new status sound history has still does =
-      inl (subst (λ (disk : D). Stays old.disk disk) (sym does.1.0) still)
+      inl (subst (λ (disk : D). Stays old.disk disk) (sym does.1) still)
   does_survive (bill month) old new status sound history has still does =
       starts_survives (new.keeper ≡ old.keeper) (BillsMonth g.disk g.out g.keeper (billing month old.keeper new.keeper)) (Some (bill month))
       old new status (λ first clock told. inl (told.any_moment honest)) still does
@@ -99,6 +99,7 @@ module _ {S D C W P Source Replies K : Type 0} (g : Parts S D C W P Source Repli
       (ForecastsBucket g.disk g.out (asking bucket day) (stream_ends (g.input.left old.input) (g.input.left new.input)))
       (Some (forecast bucket day)) old new status (λ first clock told. inl (told.any_moment honest)) still does
 
+module _ {S D C W P Source Replies K : Type 0} (g : Parts S D C W P Source Replies K) where
   -- what needs no port is done
   pub does_carried : (line : Line) (old new : World S D C W P K) (status : ℕ)
       → CarriesOut g.input g.disk g.clock g.out g.keeper line (setting_of old) (setting_of new) status → Does g line old new status
@@ -110,3 +111,9 @@ module _ {S D C W P Source Replies K : Type 0} (g : Parts S D C W P Source Repli
   does_carried (gen number count) old new status does = does
   does_carried (bill month) old new status does = does
   does_carried (forecast bucket day) old new status does = does
+
+  -- whatever the address is called
+  pub does_served : (listen told : List ℕ) (workers connections : ℕ) (old new : World S D C W P K) (status : ℕ) → listen ≡ told
+      → Does g (serve listen workers connections) old new status → Does g (serve told workers connections) old new status
+  does_served listen told workers connections old new status is does =
+      subst (λ (l : List ℕ). Does g (serve l workers connections) old new status) is does

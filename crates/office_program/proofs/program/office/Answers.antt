@@ -13,7 +13,7 @@ use Rattle.office_program.proofs.Done.{serve_none, late_none, no_billing, refusa
 use Rattle.office_program.proofs.Done.{refusal_none, refusal_known, refusal_line}
 use Rattle.office_program.proofs.Owning.{not_init}
 use Rattle.office_program.proofs.Soundness.{calls_sound, starts_sound}
-use Rattle.office_program.proofs.Surviving.{does_carried, does_survive}
+use Rattle.office_program.proofs.Surviving.{does_carried, does_served, does_survive}
 use Rattle.command_line.specs.Lines.{Line, init, run, serve, report, explain, gen, bill, forecast}
 use Rattle.office_program.specs.Commands.{faults, IsDone}
 use Rattle.office_program.specs.Program.{Obeys}
@@ -48,10 +48,14 @@ returns-in-Serve-clause-survives g c honest sound =
     let has = c.sound_now.ensures.reads honest sound in
     let old = world c.args.disk c.args.clock c.args.out.now c.args.input.now c.args.port.now c.args.keeper.now in
     let new = world c.serve.result.disk c.serve.result.clock c.serve.new.out c.args.input.now c.serve.new.port c.args.keeper.now in
-    let line = serve c.as_str.result.now c.in-Serve.workers c.in-Serve.connections in
+    let workers = c.in-Serve.workers in
+    let connections = c.in-Serve.connections in
+    let status = c.serve.result.status in
+    let listen = string_bytes c.in-Serve.listen in
+    let does = does_served all c.as_str.result.now listen workers connections old new status c.as_str.ensures.value c.serve.ensures.serves in
     subst (λ (l : Option Line). KeepsTo g.D.Disk old.disk new.disk (Narrower (g.D.Disk.state old.disk)) ⊎ AnswersSafely all l old new)
     (sym (c.in-Ok.ensures.read ∙ ap (λ (l : CommandLine). Some (line_of l)) c.in-Serve.is))
-    (does_survive all honest line old new c.serve.result.status sound has.0 has.1 c.sound_now.ensures.left c.serve.ensures.serves)
+    (does_survive all honest (serve listen workers connections) old new status sound has.0 has.1 c.sound_now.ensures.left does)
 
 pub returns-in-Err-clause-survives : goal.returns-in-Err-clause-survives
 returns-in-Err-clause-survives g c honest sound = inl c.sound_now.ensures.left
@@ -77,7 +81,8 @@ returns-in-Serve-clause-does g c =
     let new = world c.serve.result.disk c.serve.result.clock c.serve.new.out c.args.input.now c.serve.new.port c.args.keeper.now in
     subst (λ (l : Option Line). Obeys all l old new c.serve.result.status)
     (sym (c.in-Ok.ensures.read ∙ ap (λ (l : CommandLine). Some (line_of l)) c.in-Serve.is))
-    (inl c.serve.ensures.serves)
+    (inl (does_served all c.as_str.result.now (string_bytes c.in-Serve.listen) c.in-Serve.workers c.in-Serve.connections old new
+    c.serve.result.status c.as_str.ensures.value c.serve.ensures.serves))
 
 pub returns-in-Serve-clause-complete : goal.returns-in-Serve-clause-complete
 returns-in-Serve-clause-complete g c tells some good none eight =
