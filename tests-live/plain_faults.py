@@ -27,22 +27,25 @@ def number(value, size):
 class Disk:
     """Three files. `calls` counts from 1; a write that fails has happened, a sync that fails has not."""
 
-    def __init__(self, files, failing):
+    def __init__(self, files, failing=(), keeps=False):
         self.seen, self.synced = list(files), list(files)
-        self.lengths, self.ranges = [[len(it)] for it in files], [[] for _ in files]
+        self.lengths, self.ranges = [(len(it),) for it in files], [() for _ in files]
         self.failing, self.calls, self.faults = set(failing), 0, 0
-        self.past = []
+        self.past = [] if keeps else None  # the state of each file after each call
 
     def call(self):
         self.calls += 1
-        self.past.append((list(self.seen), list(self.synced), [list(it) for it in self.lengths], [list(it) for it in self.ranges]))
         return self.calls in self.failing
 
     def end(self, fails):
-        self.past[-1] = (list(self.seen), list(self.synced), [list(it) for it in self.lengths], [list(it) for it in self.ranges])
+        if self.past is not None:
+            self.past.append(self.state())
         if fails:
             self.faults += 1
             raise Fault
+
+    def state(self):
+        return list(zip(self.seen, self.synced, self.lengths, self.ranges))
 
     def length(self, file):
         self.end(self.call())
@@ -55,20 +58,19 @@ class Disk:
     def write(self, file, at, data):
         fails, was = self.call(), self.seen[file]
         self.seen[file] = was[:at] + data + was[at + len(data):]
-        self.lengths[file].append(len(self.seen[file]))
-        self.ranges[file].append((at, at + len(data)))
+        self.lengths[file] += (len(self.seen[file]),)
+        self.ranges[file] += ((at, at + len(data)),)
         self.end(fails)
 
     def sync(self, file):
         fails = self.call()
         if not fails:
-            self.synced[file], self.lengths[file], self.ranges[file] = self.seen[file], [len(self.seen[file])], []
+            self.synced[file], self.lengths[file], self.ranges[file] = self.seen[file], (len(self.seen[file]),), ()
         self.end(fails)
 
     def images(self, file, after=None):
-        """Images of a file after some of the calls."""
-        seen, synced, lengths, ranges = (it[file] for it in (self.past[after - 1] if after else self.past[-1]))
-        return images_of(seen, synced, tuple(lengths), tuple(ranges))
+        """Images of a file after so many calls, or now."""
+        return images_of(*(self.past[after - 1] if after else self.state())[file])
 
 
 @functools.lru_cache(maxsize=None)
@@ -308,7 +310,7 @@ def damage(table):
     journal = office.journal
 
     def told(data):
-        return office.told(Disk([data, *office.slots], ()))
+        return office.told(Disk([data, *office.slots]))
     rows = []
     for value in (0x37, 0x00):
         rows += ranges(f"{value:02x} at", [told(journal[:at] + bytes([value]) + journal[at + 1:]) for at in range(len(journal))])
@@ -317,7 +319,7 @@ def damage(table):
 
 def stops(table):
     office = Named(table)
-    disk = Disk([office.journal, *office.slots], table.get("failing", ()))
+    disk = Disk([office.journal, *office.slots], table.get("failing", ()), keeps=True)
     rows = ["  " + office.told(disk, True)]
     for after in range(table["calls"][0], table["calls"][1] + 1):
         journals, firsts, seconds = (disk.images(file, after) for file in (JOURNAL, *SLOTS))
@@ -326,17 +328,17 @@ def stops(table):
             changed = journal[:at] + b"\x37" + journal[at + 1:]
             for first in firsts:
                 for second in seconds:
-                    found[office.told(Disk([journal, first, second], ()))] += 1
-                    unread[office.told(Disk([changed, first, second], ()))] += 1
+                    found[office.told(Disk([journal, first, second]))] += 1
+                    unread[office.told(Disk([changed, first, second]))] += 1
         rows += [f"  after call {after}", *tallied(found), f"   with 37 at {at}", *tallied(unread)]
     return rows
 
 
-def images_word(office, images):
+@functools.lru_cache(maxsize=None)
+def images_word(before, frame, *state):
     """Whether images of the journal have the entry; a closed gate comes after what they have."""
-    before, found = office.journal[:-1], set()
-    after = before + bytes([OPEN]) + office.frame
-    for image in images:
+    after, found = before + bytes([OPEN]) + frame, set()
+    for image in images_of(*state):
         front = next((it for it in (after, before) if image.startswith(it) and image[len(it):len(it) + 1] not in (b"", bytes([OPEN]))), None)
         if front is None:
             return "damaged"
@@ -348,7 +350,7 @@ def both(table, failing):
     office = Whole(table)
     disk = Disk([office.journal, *office.slots], failing)
     told = office.told(disk, True)
-    told += f" | images {images_word(office, disk.images(JOURNAL))}"
+    told += f" | images {images_word(office.journal[:-1], office.frame, *disk.state()[JOURNAL])}"
     return office, disk, told + " | " + office.told(disk)
 
 
