@@ -346,16 +346,17 @@ def images_word(before, frame, *state):
     return "both" if len(found) == 2 else found.pop()
 
 
-def both(table, failing):
+def both(table, failing, looks):
     office = Whole(table)
     disk = Disk([office.journal, *office.slots], failing)
     told = office.told(disk, True)
-    told += f" | images {images_word(office.journal[:-1], office.frame, *disk.state()[JOURNAL])}"
+    if looks:
+        told += f" | images {images_word(office.journal[:-1], office.frame, *disk.state()[JOURNAL])}"
     return office, disk, told + " | " + office.told(disk)
 
 
-def all_three(table, failing):
-    office, disk, told = both(table, failing)
+def all_three(table, failing, looks):
+    office, disk, told = both(table, failing, looks)
     while True:
         last = office.told(disk)
         if last.endswith("0"):
@@ -363,10 +364,10 @@ def all_three(table, failing):
 
 
 def faults(table):
-    calls = next(count for count in range(1000) if both(table, [count + 1])[1].faults == 0)
-    single = collections.Counter(all_three(table, [it]) for it in range(1, calls + 1))
-    pairs = collections.Counter(all_three(table, [one, other]) for one in range(1, calls + 1) for other in range(one + 1, calls + 1))
-    onward = collections.Counter(all_three(table, range(one, calls + 1)) for one in range(1, calls + 1))
+    calls = next(count for count in range(1000) if both(table, [count + 1], False)[1].faults == 0)
+    single = collections.Counter(all_three(table, [it], True) for it in range(1, calls + 1))
+    pairs = collections.Counter(all_three(table, [one, other], False) for one in range(1, calls + 1) for other in range(one + 1, calls + 1))
+    onward = collections.Counter(all_three(table, range(one, calls + 1), True) for one in range(1, calls + 1))
     return [f"  one of {calls} calls fails", *tallied(single), "  two calls fail", *tallied(pairs), "  all calls from one on fail", *tallied(onward)]
 
 

@@ -96,14 +96,14 @@ impl Plan {
             } else if ends_after(image, &self.before) {
                 without = true;
             } else {
-                return "damaged";
+                return " | images damaged";
             }
         }
         match (with, without) {
-            (true, true) => "both",
-            (true, false) => "with",
-            (false, true) => "without",
-            (false, false) => "no image",
+            (true, true) => " | images both",
+            (true, false) => " | images with",
+            (false, true) => " | images without",
+            (false, false) => " | images no image",
         }
     }
 }

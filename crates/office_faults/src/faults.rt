@@ -12,22 +12,32 @@ use std::thread::Threads;
 /// A session makes fewer calls.
 const LIMIT: u64 = 1000;
 
-// Both sessions over a disk of which these calls fail: what was said, and what images of the journal had between them.
+// What images of the journal have, if they are looked at.
+fn images_word(plan: &Plan, disk: &MemoryDisk, looks: bool) -> Result<&'static str> {
+    if !looks {
+        return Ok("");
+    }
+    match disk.images(FileNo::Journal, u64::MAX) {
+        Ok(images) => Ok(plan.history_in(&images)),
+        Err(_) => bail!("no memory"),
+    }
+}
+
+// Both sessions over a disk whose calls with these numbers fail: what was said, and what images of the journal had
+// between them.
 fn hear_both<R: Threads + Wait + Sync>(
     rt: &R,
     alloc: Global,
     table: &Table,
     plan: &Plan,
     failing: &[u64],
+    looks: bool,
 ) -> Result<Heard> {
     let disk = disk_of(alloc, &plan.journal, &plan.first, &plan.second, failing)?;
     let heard = hear(rt, alloc, table, &plan.step, disk)?;
-    let Ok(images) = heard.disk.images(FileNo::Journal, u64::MAX) else {
-        bail!("no memory");
-    };
-    let word = plan.history_in(&images);
+    let word = images_word(plan, &heard.disk, looks)?;
     let later = hear(rt, alloc, table, &plan.show, heard.disk)?;
-    let told = format!(in alloc; "{} | images {word} | {}", heard.told, later.told)?;
+    let told = format!(in alloc; "{}{word} | {}", heard.told, later.told)?;
     Ok(Heard {
         told,
         status: later.status,
@@ -43,7 +53,7 @@ fn count_calls<R: Threads + Wait + Sync>(
     plan: &Plan,
 ) -> Result<u64> {
     for number in 1..LIMIT {
-        let heard = hear_both(rt, alloc, table, plan, &[number])?;
+        let heard = hear_both(rt, alloc, table, plan, &[number], false)?;
         if heard.disk.faults() == 0 {
             return Ok(number.saturating_sub(1));
         }
@@ -51,19 +61,20 @@ fn count_calls<R: Threads + Wait + Sync>(
     bail!("a session makes too many calls")
 }
 
-// What is said where these calls fail, of the three sessions.
+// What the three sessions say if these calls fail.
 fn hear_failing<R: Threads + Wait + Sync>(
     rt: &R,
     alloc: Global,
     table: &Table,
     plan: &Plan,
     failing: &[u64],
+    looks: bool,
 ) -> Result<String> {
     let Heard {
         mut told,
         mut disk,
         ..
-    } = hear_both(rt, alloc, table, plan, failing)?;
+    } = hear_both(rt, alloc, table, plan, failing, looks)?;
     for _ in 0..LIMIT {
         let last = hear(rt, alloc, table, &plan.show, disk)?;
         disk = last.disk;
@@ -88,7 +99,7 @@ fn tell_pairs<R: Threads + Wait + Sync>(
     let mut tally = Tally::new(alloc);
     for one in 1..=calls {
         for other in one.saturating_add(1)..=calls {
-            tally.add(hear_failing(rt, alloc, table, plan, &[one, other])?)?;
+            tally.add(hear_failing(rt, alloc, table, plan, &[one, other], false)?)?;
         }
     }
     page.push_str("  two calls fail\n")?;
@@ -108,12 +119,12 @@ pub fn tell_faults<R: Threads + Wait + Sync>(
     let mut single = Tally::new(alloc);
     let mut onward = Tally::new(alloc);
     for one in 1..=calls {
-        single.add(hear_failing(rt, alloc, table, plan, &[one])?)?;
+        single.add(hear_failing(rt, alloc, table, plan, &[one], true)?)?;
         let mut rest = Vec::new(alloc);
         for number in one..=calls {
             rest.push(number)?;
         }
-        onward.add(hear_failing(rt, alloc, table, plan, &rest)?)?;
+        onward.add(hear_failing(rt, alloc, table, plan, &rest, true)?)?;
     }
     writeln!(page, "  one of {calls} calls fails")?;
     single.put(page)?;
