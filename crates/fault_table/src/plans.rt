@@ -1,8 +1,8 @@
 // The bytes and the messages of a table.
 use crate::tables::Table;
-use anyhow::Result;
+use anyhow::{Context, Result};
 use case_table::{Session, Step, add_messages, bytes_of, number_of};
-use std::alloc::{AllocError, Global};
+use std::alloc::Global;
 
 /// The size of the pieces in which input comes, in bytes.
 const CUT: usize = 8192;
@@ -42,10 +42,11 @@ fn slot_of(alloc: Global, table: &Table, number: usize) -> Result<Vec<u8>> {
 }
 
 // These bytes, an open gate, the length of an entry, and the entry.
-fn joined(alloc: Global, before: &[u8], entry: &[u8]) -> Result<Vec<u8>, AllocError> {
+fn joined(alloc: Global, before: &[u8], entry: &[u8]) -> Result<Vec<u8>> {
+    let size = u32::try_from(entry.len()).context("an entry is too long")?;
     let mut after = before.to_vec(alloc)?;
     after.push(OPEN)?;
-    after.extend_from_slice(&(entry.len() as u32).to_be_bytes())?;
+    after.extend_from_slice(&size.to_be_bytes())?;
     after.extend_from_slice(entry)?;
     Ok(after)
 }
