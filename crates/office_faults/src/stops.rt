@@ -94,7 +94,7 @@ pub fn tell_stops<R: Threads + Wait + Sync>(
     table: &Table,
     plan: &Plan,
 ) -> Result<()> {
-    let Some([first, last]) = table.calls else {
+    let Some(range) = &table.calls else {
         bail!("no numbers of calls");
     };
     let disk = disk_of(
@@ -106,7 +106,7 @@ pub fn tell_stops<R: Threads + Wait + Sync>(
     )?;
     let heard = hear(rt, alloc, table, &plan.step, disk)?;
     writeln!(page, "  {}", heard.told)?;
-    for calls in first..=last {
+    for calls in range[0]..=range[1] {
         tell_stop(rt, alloc, page, table, plan, &heard.disk, calls)?;
     }
     Ok(())
