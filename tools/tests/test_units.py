@@ -6,6 +6,7 @@ import unittest
 ROOT = pathlib.Path(__file__).resolve().parent.parent.parent
 UNIT = (ROOT / "tools" / "systemd" / "office.service").read_text("utf-8")
 OPERATIONS = (ROOT / "docs" / "OPERATIONS.md").read_text("utf-8")
+SECURITY = (ROOT / "docs" / "SECURITY.md").read_text("utf-8")
 MIB = 1 << 20
 UNITS = {"K": 1 << 10, "M": MIB, "G": 1 << 30}
 # docs/PERFORMANCE.md, "Memory": bytes of a version without its key; MiB of usual kept replies.
@@ -36,7 +37,7 @@ def sum_for(workers):
 
 class Limits(unittest.TestCase):
     def test_the_unit(self):
-        workers = int(re.search(r"--workers (\d+)", setting("Environment"))[1])
+        workers = int(re.search(r"--workers (\d+)", setting('Environment="OFFICE_OPTIONS'))[1])
         addresses, memory = size_of(setting("LimitAS")), size_of(setting("MemoryMax"))
         self.assertGreater(addresses, sum_for(workers) * MIB, "the records and the workers fit")
         self.assertGreaterEqual(memory - addresses, 100 * MIB, "what the program may take is never what the system kills for")
@@ -49,6 +50,15 @@ class Limits(unittest.TestCase):
             self.assertEqual((sum_for(workers), addresses - total, True), (total, left, memory - addresses >= 100), workers)
         self.assertEqual((size_of(setting("LimitAS")), size_of(setting("MemoryMax"))), tuple(int(it) * MIB for it in rows[0][2:4]))
         self.assertIn(f"ulimit -v {size_of(setting('LimitAS')) // 1024};", OPERATIONS)
+
+
+class GivesBack(unittest.TestCase):
+    def test_one_setting(self):
+        """The setting of the C library is that of both pages."""
+        words = "GLIBC_TUNABLES=" + setting("Environment=GLIBC_TUNABLES")
+        self.assertEqual("GLIBC_TUNABLES=glibc.malloc.tcache_count=0:glibc.malloc.mxfast=0", words)
+        for page in (OPERATIONS, SECURITY):
+            self.assertEqual([words], re.findall(r"GLIBC_TUNABLES=[^\s`]+", page))
 
 
 class Journal(unittest.TestCase):
