@@ -18,7 +18,7 @@ MADE = (CREATE, PUT, START, COMPLETE)  # kinds whose reply is 201
 # past.
 GONE = {"id": "gone", "enabled": True, "prefix": "", "tags": [], "date": 1_577_836_800_000}
 FAULT, NONE = (503, '{"error":"StoreFault","number":114}'), '{"action":"none"}'
-NO_BUCKET = (404, '{"error":"NoSuchBucket","number":81}')
+NO_BUCKET, NO_KEY = (404, '{"error":"NoSuchBucket","number":81}'), (404, '{"error":"NoSuchKey","number":50}')
 
 
 def about(name, **more):
@@ -95,9 +95,10 @@ class Model:
     def targets(self):
         return [target for target, _, _ in self.queries()]
 
-    def replies(self):
-        """The reply to each query, by its target."""
-        return {target: (status, text(found)) for target, status, found in self.queries()}
+    def reply(self, target):
+        """The reply to a query; also of a key that was not named yet, or of a bucket that is not there."""
+        found = {target: (status, text(body)) for target, status, body in self.queries()}
+        return found.get(target, NO_KEY if target.split("/")[2] in self.buckets else NO_BUCKET)
 
 
 class Entry(typing.NamedTuple):
@@ -148,7 +149,7 @@ def check_session(model, asked, replies, entries):
         reply = replies[place] if place < len(replies) else None
         wanted = None
         if isinstance(it, str):
-            wanted = model.replies().get(it, NO_BUCKET)
+            wanted = model.reply(it)
         elif it.token in model.kept:
             wanted = model.kept[it.token]
         elif entries and entries[0].rest == it.entry:

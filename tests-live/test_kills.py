@@ -263,6 +263,7 @@ class Kills(live.Case):
         try:
             while self.kills < KILLS:
                 self.life(min(KILLS, self.kills + LIFE))
+                print(f"{self.kills} kills, {self.counts['acknowledged']} commands acknowledged", flush=True)
         finally:
             found = "; ".join(f"{name} {count}" for name, count in sorted(self.counts.items()))
             print(f"seed {SEED}: {self.kills} kills in {time.monotonic() - began:.0f} s: {found}", flush=True)

@@ -192,7 +192,7 @@ class LostPower(live.Case):
                                         for it in range(12))]
         lost = collections.Counter()
         self.logged(["init"])
-        begun = self.calls
+        begun = list(self.calls)
         shutil.copytree(self.place, self.folder / "made")
         self.logged(["run"], asked)
         gates = [it.number for it, other in zip(self.calls[len(begun):], self.calls[len(begun) + 1:])
