@@ -247,7 +247,7 @@ class LostWrites(Mounts):
             self.check("with room each is done", {201}, {it[0] for it in replies})
             self.check("and once", [], check_session(model, again, replies, self.entries(place)[len(there):]))
             server.stop(9)
-        # What the device itself has is not compared: one that failed a write so keeps no later write of that page, though its
+        # What the device itself has is not compared: it keeps no later write of a page whose write failed, though the
         # syncs succeed. A writer that writes the whole page again loses it too (README, "How to lose data").
         code, replies, note = self.run_office(place, model.targets())
         self.check("the next run", (0, "", []), (code, note, check_session(model, model.targets(), replies, [])))

@@ -142,14 +142,17 @@ class LostPower(live.Case):
         return [*([] if (ended.returncode, ended.stderr) == (0, b"")
                   else [f"a run: {ended.returncode} {ended.stderr!r}"]), *wrong]
 
-    def wrong_images(self, calls, most, draws=IMAGES, name="images"):
-        """The images of the moments of a log that fail, at most so many: the moment, the image, and what is wrong."""
+    def wrong_images(self, calls, most, draws=IMAGES, name="images", since=0):
+        """The images of the moments of a log that fail, from a number of calls on, at most so many: the moment, the
+        image, and what is wrong."""
         found, saved = [], 0
         for count, disk, acked in self.moments_of(calls):
             saved += any(it.kind == SYNC and it.file in SLOTS and it.result == 0
                          for it in calls[count - 1:count]) and is_saved(calls[:count])
             images = {"least": File.least, "all": lambda file: file.seen,
                       **{str(it): some_image((SEED, count, it).__hash__()) for it in range(draws)}}
+            if count < since:
+                continue
             if not any(it.written for it in disk.files.values()):
                 images = {"all": images["all"]}
             for which, image in images.items():
@@ -180,7 +183,9 @@ class LostPower(live.Case):
                              ("the gate is written first", gate_first), ("both slots are one file", one_slot)):
             changed = change(self.calls)
             self.assertNotEqual(self.calls, changed, name)
-            wrong = self.wrong_images(changed, 1, max(IMAGES, 6), name)
+            # Where the slots meet is the second save.
+            since = self.begun[1] if change is one_slot else 0
+            wrong = self.wrong_images(changed, 1, max(IMAGES, 6), name, since)
             self.check(f"{name}: an image fails", 1, len(wrong))
             print(f"{name}: {wrong[0] if wrong else 'no image fails'}", flush=True)
         self.say()
