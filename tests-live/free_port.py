@@ -21,6 +21,8 @@ def free_ports(count):
         if port in given:
             continue
         probe = socket.socket()
+        # A port whose last connections wait for late packets can be listened on, as the program does.
+        probe.setsockopt(socket.SOL_SOCKET, socket.SO_REUSEADDR, 1)
         try:
             probe.bind((HOST, port))
         except OSError:
@@ -38,6 +40,11 @@ def free_ports(count):
 
 def free_port():
     return free_ports(1)[0]
+
+
+def give_back(port):
+    """Who listened on this port has ended."""
+    given.discard(port)
 
 
 if __name__ == "__main__":

@@ -20,7 +20,7 @@ import live
 from call_log import CUT, JOURNAL, LENGTH, READ, REPLY, SLOTS, SYNC, WRITE
 from commands import (ACT, CREATE, DELETE, FAULT, GONE, PUT, RULES, VERSIONING, Ask, Model, check_session, entry_in,
                       replies_in)
-from free_port import HOST, free_port
+from free_port import HOST, free_port, give_back
 from serve_client import LIMIT, request, whole_entries_of
 
 # A run that ends with a query, one that ends with a command, and one more over both slots. No two of their commands
@@ -81,6 +81,7 @@ class DiskCalls(live.Case):
                 except ConnectionRefusedError:
                     time.sleep(0.001)
             note = server.communicate(timeout=LIMIT)[1].decode()
+        give_back(port)
         return server.returncode, said, note, call_log.calls_in(self.log)
 
     def anew(self, saved):
