@@ -5,7 +5,7 @@ use std::io::Write;
 use std::net::{Shutdown, TcpStream};
 use std::time::Duration;
 
-/// How many reads wait for the end of a peer, and how many seconds each of them waits.
+/// How many reads wait for a peer to end its side, and how many seconds each of them waits.
 const LAST_READS: u32 = 64;
 
 const LAST_WAIT: u64 = 1;
@@ -13,8 +13,8 @@ const LAST_WAIT: u64 = 1;
 /// How many bytes such a read takes.
 const LAST_ROOM: usize = 65536;
 
-/// A handle of a stream that sends. Where it is dropped, the peer is told that nothing more comes, and a read of the
-/// stream's other handles waits no longer than a second.
+/// A handle of a stream that sends. Dropping it ends the sending side, and a read through the stream's other handles
+/// then waits no longer than a second.
 #[derive(Debug)]
 pub struct Sending {
     stream: TcpStream,
@@ -27,7 +27,7 @@ impl Sending {
     }
 }
 
-// Where the peer is gone already, the system refuses both calls, and nobody is left to be told.
+// If the peer is gone already, the system refuses both calls, and nothing is left to do.
 impl Drop for Sending {
     fn drop(self) {
         let _ = self
@@ -50,8 +50,7 @@ impl Write for Sending {
 
 /// Takes what a peer still sends, up to 4 MiB, until it ends its side or is silent for a second.
 ///
-/// A system that closes a connection with bytes in it that nobody read resets it, and the peer may then lose the last
-/// reply.
+/// A system that closes a connection with unread bytes resets it, and the peer may then lose the last reply.
 pub(crate) fn await_end<S: Source>(source: &mut S) {
     let mut room = [0u8; LAST_ROOM];
     for _ in 0..LAST_READS {
