@@ -9,7 +9,7 @@ use Rattle.disk_core.proofs.Laws.{DiskLaws}
 use Rattle.disk_core.proofs.Time.{weakened}
 use Rattle.office_types.specs.declared.command.Entry.{Entry}
 use Rattle.desk_core.specs.Answers.{Answer, Call}
-use Rattle.desk_core.specs.Calls.{Legal}
+use Rattle.desk_core.specs.Calls.{AreLegal}
 use Rattle.desk_core.specs.Histories.{HasAcceptedHistory, IsPrefixButOne}
 use Rattle.desk_core.specs.Serving.{IsAckedAt, IsToldBy, AreToldBy, Opened, Recoverable, Recovers, Agrees, DiskServes}
 use Rattle.desk_core.proofs.OneCallMore.{HasImageOf, last_faults, legal_append, acked_split, told_later, told_more}
@@ -27,10 +27,10 @@ HasFewer first s = (image : List ℕ) → IsImage s.journal image → IsImage fi
 most_more : (calls more : List Call) (count : ℕ) → count ≤ length calls → count ≤ length (calls ++ more)
 most_more calls more count most = omega (arith, most, length-append calls more)
 
-legal_more : (opened : Opened) (calls more : List Call) (count : ℕ) (history : List Entry) → count ≤ length calls → Legal true opened.limit opened.faults (take count calls) opened.history history
-    → Legal true opened.limit opened.faults (take count (calls ++ more)) opened.history history
+legal_more : (opened : Opened) (calls more : List Call) (count : ℕ) (history : List Entry) → count ≤ length calls → AreLegal true opened.limit opened.faults (take count calls) opened.history history
+    → AreLegal true opened.limit opened.faults (take count (calls ++ more)) opened.history history
 legal_more opened calls more count history most legal =
-    subst (λ (list : List Call). Legal true opened.limit opened.faults list opened.history history) (sym (take-append-le count calls more most)) legal
+    subst (λ (list : List Call). AreLegal true opened.limit opened.faults list opened.history history) (sym (take-append-le count calls more most)) legal
 
 pub recoverable_more : (opened : Opened) (calls more : List Call) (s : State) → Recoverable opened calls s → Recoverable opened (calls ++ more) s
 recoverable_more opened calls more s has image is =
@@ -129,7 +129,7 @@ module _ {D : Type 0} {d : disks.Ghosts D} (laws : DiskLaws d) where
       acked = λ place answer is le. was.acked place answer (before_it place answer is) le;
     }
 
-    pub idle : ((history : List Entry) → HasImageOf (d.state disk) history → Legal true opened.limit (last_faults opened.faults calls) (call ∷ []) history history)
+    pub idle : ((history : List Entry) → HasImageOf (d.state disk) history → AreLegal true opened.limit (last_faults opened.faults calls) (call ∷ []) history history)
         → IsToldBy (d.fault_count disk) call.said → DiskServes d opened disk (calls ++ call ∷ [])
     idle stays told = record {
       later = serves.later;

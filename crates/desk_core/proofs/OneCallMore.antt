@@ -23,7 +23,7 @@ use Rattle.desk_core.specs.declared.fault.DeskFault.{DeskFault}
 use Rattle.desk_core.specs.declared.fault.DeskFault.TheVariants as faults
 use Rattle.desk_core.specs.Answers.{Answer, Call}
 use Rattle.desk_core.specs.Asked.{Asked, asked, entry_of}
-use Rattle.desk_core.specs.Calls.{Legal, IsLegal, IsDone, IsReply, IsWritten, IsKeptAt, MayBeKept, GrowsBy, faults_after, moment_after}
+use Rattle.desk_core.specs.Calls.{AreLegal, IsLegal, IsDone, IsReply, IsWritten, IsKeptAt, MayBeKept, GrowsBy, faults_after, moment_after}
 use Rattle.desk_core.specs.Histories.{HasAcceptedHistory, HaveHistories, IsPrefixOf, IsPrefixButOne}
 use Rattle.desk_core.specs.Serving.{IsAckedAt, IsToldBy, AreToldBy, Opened, Recoverable, Recovers, Agrees, DiskServes}
 
@@ -43,7 +43,7 @@ module _ {D : Type 0} (d : disks.Ghosts D) where
   pub record InCall (old : D) (limit last : ℕ) (call : Call) (settled : List Entry) (s : State) : Type 0 where
     pub sound : HaveHistories s
     pub each : (image : List ℕ) (history : List Entry) → IsImage s.journal image → HasAcceptedHistory history image
-        → HasImageOf (d.state old) history ⊎ Legal true limit last (call ∷ []) settled history
+        → HasImageOf (d.state old) history ⊎ AreLegal true limit last (call ∷ []) settled history
 
   -- the acknowledgement has the moment of the return, where all images have one history, which ends at its position
   abbrev pub IsKept : D → Result Answer DeskFault → Type 0
@@ -57,15 +57,15 @@ module _ {D : Type 0} (d : disks.Ghosts D) where
     pub settled : List Entry
     pub is_settled : HasImageOf (d.state old) settled
     pub run : KeepsTo d old new (InCall old limit last call settled)
-    pub done : (image : List ℕ) (history : List Entry) → IsImage (d.state new).journal image → HasAcceptedHistory history image → Legal true limit last (call ∷ []) settled history
+    pub done : (image : List ℕ) (history : List Entry) → IsImage (d.state new).journal image → HasAcceptedHistory history image → AreLegal true limit last (call ∷ []) settled history
     pub kept : IsKept new call.said
     pub faults : (d.fault_count old ≤ d.fault_count new) × IsToldBy (d.fault_count new) call.said
 
 -- ---- legal lists
 
-pub legal_append : (honest : Bool) (limit faults : ℕ) (calls more : List Call) (a b c : List Entry) → Legal honest limit faults calls a b
-    → Legal honest limit (last_faults faults calls) more b c → Legal honest limit faults (calls ++ more) a c
-legal_append honest limit faults [] more a b c first second = subst (λ (h : List Entry). Legal honest limit faults more h c) first second
+pub legal_append : (honest : Bool) (limit faults : ℕ) (calls more : List Call) (a b c : List Entry) → AreLegal honest limit faults calls a b
+    → AreLegal honest limit (last_faults faults calls) more b c → AreLegal honest limit faults (calls ++ more) a c
+legal_append honest limit faults [] more a b c first second = subst (λ (h : List Entry). AreLegal honest limit faults more h c) first second
 legal_append honest limit faults (call ∷ calls) more a b c first second =
     (first.0, first.1, legal_append honest limit (faults_after faults call.said) calls more first.0 b c first.2 second)
 
@@ -112,7 +112,7 @@ one_grows limit told question (Err faults.JournalFull) office before after is = 
 one_grows limit told question (Err (faults.Broken fault)) office before after is = absurd (is refl)
 one_grows limit told question (Err faults.NoMemory) office before after is = same_grows before after is
 
-pub call_grows : (limit faults : ℕ) (call : Call) (before after : List Entry) → Legal true limit faults (call ∷ []) before after → Grows before after
+pub call_grows : (limit faults : ℕ) (call : Call) (before after : List Entry) → AreLegal true limit faults (call ∷ []) before after → Grows before after
 call_grows limit faults call before after is =
     some_and (run before) (λ office. IsLegal true limit faults call.ask call.said office before is.0)
     (λ office legal. subst (λ (h : List Entry). Grows before h) (sym is.2) (one_grows limit faults call.ask call.said office before is.0 legal)) is.1
@@ -125,7 +125,7 @@ begins_then : (a b c : List Entry) → IsPrefixOf a b → IsPrefixOf b c → IsP
 begins_then a b c first second = (first.0 ++ second.0, second.1 ∙ ap (λ (l : List Entry). l ++ second.0) first.1 ∙ append_assoc a first.0 second.0)
 
 -- calls leave the history that they began with, and what they added
-pub calls_grow : (limit faults : ℕ) (calls : List Call) (before after : List Entry) → Legal true limit faults calls before after → IsPrefixOf before after
+pub calls_grow : (limit faults : ℕ) (calls : List Call) (before after : List Entry) → AreLegal true limit faults calls before after → IsPrefixOf before after
 calls_grow limit faults [] before after is = ([], is ∙ sym (append-nil before))
 calls_grow limit faults (call ∷ calls) before after is =
     begins_then before is.0 after (begins_grown before is.0 (call_grows limit faults call before is.0 (is.0, is.1, refl))) (calls_grow limit (faults_after faults call.said) calls is.0 after is.2)
@@ -177,12 +177,12 @@ module _ {D : Type 0} {d : disks.Ghosts D} (laws : DiskLaws d) where
     first_calls k le = take-append-le k calls (call ∷ []) le
 
     abbrev Rule : List Call → List Entry → Type 0
-    Rule list history = Legal true opened.limit opened.faults list opened.history history
+    Rule list history = AreLegal true opened.limit opened.faults list opened.history history
 
     whole_of_old : (history : List Entry) → HasImageOf (d.state old) history → Rule calls history
     whole_of_old history has = serves.whole has.image history has.is_image has.has
 
-    whole_of_new : (before history : List Entry) → HasImageOf (d.state old) before → Legal true opened.limit (last_faults opened.faults calls) (call ∷ []) before history → Rule all history
+    whole_of_new : (before history : List Entry) → HasImageOf (d.state old) before → AreLegal true opened.limit (last_faults opened.faults calls) (call ∷ []) before history → Rule all history
     whole_of_new before history has one = legal_append true opened.limit opened.faults calls (call ∷ []) opened.history before history (whole_of_old before has) one
 
     abbrev Last : ℕ
@@ -222,7 +222,7 @@ module _ {D : Type 0} {d : disks.Ghosts D} (laws : DiskLaws d) where
     }
 
     recovers_by : (t : ℕ) (image : List ℕ) (history : List Entry) → t < d.moment new → HasAcceptedHistory history image
-        → HasImageOf (d.state old) history ⊎ Legal true opened.limit Last (call ∷ []) makes.settled history → Recovers opened all t image
+        → HasImageOf (d.state old) history ⊎ AreLegal true opened.limit Last (call ∷ []) makes.settled history → Recovers opened all t image
     recovers_by t image history lt stands (inl has) = recovers_old t image history lt stands has
     recovers_by t image history lt stands (inr one) = recovers_whole t image history stands (whole_of_new makes.settled history makes.is_settled one)
 
@@ -253,7 +253,7 @@ module _ {D : Type 0} {d : disks.Ghosts D} (laws : DiskLaws d) where
     ]
 
     begins_in_call : (entries history : List Entry) → ((h : List Entry) → HasImageOf (d.state old) h → IsPrefixOf entries h)
-        → HasImageOf (d.state old) history ⊎ Legal true opened.limit Last (call ∷ []) makes.settled history → IsPrefixOf entries history
+        → HasImageOf (d.state old) history ⊎ AreLegal true opened.limit Last (call ∷ []) makes.settled history → IsPrefixOf entries history
     begins_in_call entries history of_old (inl has) = of_old history has
     begins_in_call entries history of_old (inr one) =
         begins_then entries makes.settled history (of_old makes.settled makes.is_settled) (begins_grown makes.settled history (call_grows opened.limit Last call makes.settled history one))
@@ -279,12 +279,12 @@ module _ {D : Type 0} {d : disks.Ghosts D} (laws : DiskLaws d) where
         has.is_image has.has base.image b base.is_image base.has
 
     -- from what each history before the call begins with but for one, to the return
-    but_one_at_return : (h now : List Entry) → ((b : List Entry) → HasImageOf (d.state old) b → IsPrefixButOne h b) → Legal true opened.limit Last (call ∷ []) makes.settled now → IsPrefixButOne h now
+    but_one_at_return : (h now : List Entry) → ((b : List Entry) → HasImageOf (d.state old) b → IsPrefixButOne h b) → AreLegal true opened.limit Last (call ∷ []) makes.settled now → IsPrefixButOne h now
     but_one_at_return h now each done =
         but_one_then h makes.settled now (each makes.settled makes.is_settled) (begins_grown makes.settled now (call_grows opened.limit Last call makes.settled now done))
 
-    but_one_in_call : (h now : List Entry) → HasImageOf (d.state old) h ⊎ Legal true opened.limit Last (call ∷ []) makes.settled h
-        → Legal true opened.limit Last (call ∷ []) makes.settled now → IsPrefixButOne h now
+    but_one_in_call : (h now : List Entry) → HasImageOf (d.state old) h ⊎ AreLegal true opened.limit Last (call ∷ []) makes.settled h
+        → AreLegal true opened.limit Last (call ∷ []) makes.settled now → IsPrefixButOne h now
     but_one_in_call h now (inl has) done = but_one_at_return h now (λ b base. old_but_one h b has base) done
     but_one_in_call h now (inr one) done =
         grown_but_one makes.settled h now (call_grows opened.limit Last call makes.settled h one) (begins_grown makes.settled now (call_grows opened.limit Last call makes.settled now done))

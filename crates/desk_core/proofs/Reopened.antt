@@ -23,7 +23,7 @@ use Rattle.desk_core.specs.declared.fault.DeskFault.TheVariants as faults
 use Rattle.desk_core.specs.Answers.{Answer, Call}
 use Rattle.desk_core.specs.Submitting.{Reopens, IsUnopened, IsOffice, Unopened}
 use Rattle.desk_core.specs.Damage.{IsBroken, OpenFailsOn}
-use Rattle.desk_core.specs.Calls.{Legal, IsLegal}
+use Rattle.desk_core.specs.Calls.{AreLegal, IsLegal}
 use Rattle.desk_core.specs.Histories.{HasAcceptedHistory, IsOfHistory, FitsHistory, SlotsFit}
 use Rattle.desk_core.specs.Reading.{IsOpenable}
 use Rattle.desk_core.specs.Serving.{Opened, IsToldBy, Recoverable, KeepsSlots, Recovers}
@@ -81,7 +81,7 @@ module _ {D C : Type 0} {d : disks.Ghosts D} (laws : DiskLaws d) where
     last = last_faults opened.faults calls
 
     abbrev Rule : List Entry → Type 0
-    Rule history = Legal d.honest opened.limit opened.faults calls opened.history history
+    Rule history = AreLegal d.honest opened.limit opened.faults calls opened.history history
 
     abbrev seen : List ℕ
     seen = (d.state desk.disk).journal.seen
@@ -147,7 +147,7 @@ module _ {D C : Type 0} {d : disks.Ghosts D} (laws : DiskLaws d) where
 
       kept_by : (b : Bool) (call : Call)
           → ((p : Office) (history : List Entry) → IsLegal b opened.limit last call.ask call.said p history history)
-          → (history : List Entry) → IsSome (run history) → Legal b opened.limit last (call ∷ []) history history
+          → (history : List Entry) → IsSome (run history) → AreLegal b opened.limit last (call ∷ []) history history
       kept_by b call legal history some = run_of history some (λ p is. one_legal b opened.limit last call history history p is (legal p history))
 
       -- want of memory leaves a stale desk stale

@@ -16,7 +16,7 @@ use Rattle.desk_core.specs.declared.clock.Clock as clocks
 use Rattle.desk_core.specs.Answers.{Call}
 use Rattle.slots.specs.Causes.{HasSaveCause}
 use Rattle.slots.specs.declared.fault.SaveFault.{SaveFault}
-use Rattle.desk_core.specs.Calls.{Legal}
+use Rattle.desk_core.specs.Calls.{AreLegal}
 use Rattle.desk_core.specs.Closing.{Closes}
 use Rattle.desk_core.specs.Desk.{DeskView, HoldsHistory, StandsFor}
 use Rattle.desk_core.specs.Histories.{HasAcceptedHistory, IsSound}
@@ -35,7 +35,7 @@ use Rattle.desk_core.proofs.OneCallMore.{calls_grow}
 module _ {D C : Type 0} {d : disks.Ghosts D} (laws : DiskLaws d) (k : clocks.Ghosts C) where
   -- a history to which the calls lead, and which the desk holds if it is not stale
   abbrev Led : Opened → List Call → DeskView D C → Type 0
-  Led opened calls desk = (history : List Entry) × Legal d.honest opened.limit opened.faults calls opened.history history × (desk.stale ≡ false → HoldsHistory d history desk)
+  Led opened calls desk = (history : List Entry) × AreLegal d.honest opened.limit opened.faults calls opened.history history × (desk.stale ≡ false → HoldsHistory d history desk)
 
   led_stale : (opened : Opened) (calls : List Call) (desk : DeskView D C) → StandsFor d opened calls desk → desk.stale ≡ true → Led opened calls desk
   led_stale opened calls desk s stale =

@@ -16,7 +16,7 @@ use Rattle.meter_journal.proofs.Unique.{entries_unique}
 use Rattle.desk_core.specs.declared.fault.DeskFault.{DeskFault}
 use Rattle.desk_core.specs.declared.fault.DeskFault.TheVariants as faults
 use Rattle.desk_core.specs.Answers.{Answer, Call}
-use Rattle.desk_core.specs.Calls.{Legal, IsLegal, faults_after}
+use Rattle.desk_core.specs.Calls.{AreLegal, IsLegal, faults_after}
 use Rattle.desk_core.specs.Histories.{HasAcceptedHistory}
 use Rattle.desk_core.specs.Serving.{AreToldBy, IsToldBy}
 use Rattle.desk_core.proofs.OneCallMore.{HasImageOf, last_faults, InCall, IsKept, Makes}
@@ -24,7 +24,7 @@ use Rattle.desk_core.proofs.OneCallMore.{HasImageOf, last_faults, InCall, IsKept
 -- ---- one call alone
 
 pub one_legal : (honest : Bool) (limit told : ℕ) (call : Call) (before after : List Entry) (p : Office) → run before ≡ Some p
-    → IsLegal honest limit told call.ask call.said p before after → Legal honest limit told (call ∷ []) before after
+    → IsLegal honest limit told call.ask call.said p before after → AreLegal honest limit told (call ∷ []) before after
 one_legal honest limit told call before after p is legal =
     (after, subst (λ (o : Option Office). IsSomeAnd o (λ office. IsLegal honest limit told call.ask call.said office before after)) (sym is) legal, refl)
 
@@ -64,7 +64,7 @@ module _ {D : Type 0} {d : disks.Ghosts D} (laws : DiskLaws d) where
       (is_run : run before ≡ Some p) (reads : IsImage (d.state old).journal (d.state old).journal.seen)
       (limit last : ℕ) (call : Call) where
     abbrev Rule : List Entry → Type 0
-    Rule after = Legal true limit last (call ∷ []) before after
+    Rule after = AreLegal true limit last (call ∷ []) before after
 
     abbrev In : State → Type 0
     In s = InCall d old limit last call before s

@@ -32,7 +32,7 @@ use Rattle.desk_core.specs.declared.fault.DeskFault.{DeskFault}
 use Rattle.desk_core.specs.declared.fault.DeskFault.TheVariants as faults
 use Rattle.desk_core.specs.Answers.{Answer, Call}
 use Rattle.desk_core.specs.Asked.{Asked, asked, entry_of, IsFresh, IsNotKept}
-use Rattle.desk_core.specs.Calls.{Legal, IsLegal, IsDone, IsReply, IsFull, IsWritten, IsKeptAt, IsCommand, FitsIn, moment_after}
+use Rattle.desk_core.specs.Calls.{AreLegal, IsLegal, IsDone, IsReply, IsFull, IsWritten, IsKeptAt, IsCommand, FitsIn, moment_after}
 use Rattle.desk_core.specs.Histories.{SlotsFit}
 use Rattle.desk_core.specs.Serving.{Opened, IsToldBy, AreToldBy, KeepsSlots, DiskServes}
 use Rattle.desk_core.specs.Submitting.{PassesLimit}
@@ -103,7 +103,7 @@ pub record StandsAt {D C : Type 0} (d : disks.Ghosts D) (opened : Opened) (calls
   pub limit : desk.limit ≡ opened.limit
   pub faults : (opened.faults ≤ d.fault_count desk.disk) × AreToldBy (d.fault_count desk.disk) calls
   pub history : List Entry
-  pub legal : Legal d.honest opened.limit opened.faults calls opened.history history
+  pub legal : AreLegal d.honest opened.limit opened.faults calls opened.history history
   pub holds : HoldsHistory d history desk
   pub tells : IsTrue d.honest
   pub serves : DiskServes d opened desk.disk calls
@@ -133,7 +133,7 @@ module _ {D C : Type 0} {d : disks.Ghosts D} (laws : DiskLaws d) where
     abbrev Next : Call → Type 0
     Next call = GoesOn d opened (calls ++ call ∷ []) old.disk (record new { stale = stale_after false call.said })
 
-    grown_by : (call : Call) (after : List Entry) → ((b : Bool) → Legal b opened.limit last (call ∷ []) s.history after) → (stale_after false call.said ≡ false → HoldsHistory d after new)
+    grown_by : (call : Call) (after : List Entry) → ((b : Bool) → AreLegal b opened.limit last (call ∷ []) s.history after) → (stale_after false call.said ≡ false → HoldsHistory d after new)
         → IsToldBy (d.fault_count new.disk) call.said
         → KeepsTo d old.disk new.disk (KeepsSlots (d.state old.disk)) → Makes d old.disk new.disk opened.limit last call → Next call
     grown_by call after rule holds told slots makes = record {
@@ -174,7 +174,7 @@ module _ {D C : Type 0} {d : disks.Ghosts D} (laws : DiskLaws d) where
         → IsToldBy (d.fault_count new.disk) call.said
         → IsKept d new.disk call.said → Next call
     still_by call fine same holds legal told kept =
-        let rule : (b : Bool) → Legal b opened.limit last (call ∷ []) s.history s.history = λ b. one_legal b opened.limit last call s.history s.history plain runs (legal b) in
+        let rule : (b : Bool) → AreLegal b opened.limit last (call ∷ []) s.history s.history = λ b. one_legal b opened.limit last call s.history s.history plain runs (legal b) in
         grown_by call s.history rule (λ _. holds) told
         (subst (λ (z : D). KeepsTo d old.disk z (KeepsSlots (d.state old.disk))) (sym same) (started d old.disk (KeepsSlots (d.state old.disk)) (laws.only_now old.disk) (refl, refl)))
         (makes_still laws old.disk old.gate s.history plain (held.at_rest s.tells) runs
@@ -232,7 +232,7 @@ module _ {D C : Type 0} {d : disks.Ghosts D} (laws : DiskLaws d) where
           grown said made reply fits accepted grows =
               let call = call_of question (Ok said) in
               let after = s.history ++ e ∷ [] in
-              let rule : (b : Bool) → Legal b opened.limit last (call ∷ []) s.history after = λ b. one_legal b opened.limit last call s.history after plain runs
+              let rule : (b : Bool) → AreLegal b opened.limit last (call ∷ []) s.history after = λ b. one_legal b opened.limit last call s.history after plain runs
               (legal_at question said after made grows.holds.end
               (reply_of question one asks said.reply after (record { told = reply; grows = inl (accepted, refl); fits = room fits })) b) in
               grown_by call after rule (λ _. grows.holds) tt (adding_keeps s.history e (grows.run s.tells))
@@ -255,7 +255,7 @@ module _ {D C : Type 0} {d : disks.Ghosts D} (laws : DiskLaws d) where
               let call = call_of question (Err (faults.StoreFault (Some number) count)) in
               let rose : Rose last count = subst (λ (k : ℕ). Rose last k) (sym is) (rose_later last (d.fault_count old.disk) (d.fault_count new.disk)
               (last_below opened.faults (d.fault_count old.disk) calls s.faults.0 s.faults.1) fails.rose) in
-              let rule : (b : Bool) → Legal b opened.limit last (call ∷ []) s.history s.history = λ b. one_legal b opened.limit last call
+              let rule : (b : Bool) → AreLegal b opened.limit last (call ∷ []) s.history s.history = λ b. one_legal b opened.limit last call
               s.history s.history plain runs (command_is, rose, λ _. inl refl) in
               let accepted = fails.accepted plain held.office.stands in
               let written : IsWritten (moment_after number plain.last) one plain s.history (s.history ++ e ∷ []) =

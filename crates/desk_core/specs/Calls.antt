@@ -117,9 +117,9 @@ faults_after counted (Err (faults.Broken fault)) = counted
 faults_after counted (Err faults.NoMemory) = counted
 
 -- the calls in order, each on the history that the ones before it left
-abbrev pub Legal : Bool → ℕ → ℕ → List Call → List Entry → List Entry → Type 0
-Legal honest limit counted [] before after = after ≡ before
-Legal honest limit counted (call ∷ calls) before after =
+abbrev pub AreLegal : Bool → ℕ → ℕ → List Call → List Entry → List Entry → Type 0
+AreLegal honest limit counted [] before after = after ≡ before
+AreLegal honest limit counted (call ∷ calls) before after =
     (between : List Entry)
     × IsSomeAnd (run before) (λ office. IsLegal honest limit counted call.ask call.said office before between)
-    × Legal honest limit (faults_after counted call.said) calls between after
+    × AreLegal honest limit (faults_after counted call.said) calls between after

@@ -9,11 +9,10 @@ use Rattle.office_machine.specs.Once.{OfficeView}
 use Rattle.entry_codec.specs.Spelling.{EntryFits}
 use Rattle.meter_journal.specs.History.{end_gate, IsAtRest}
 use Rattle.desk_core.specs.Answers.{Answer, Call}
-use Rattle.desk_core.specs.Calls.{Legal}
 use Rattle.desk_core.specs.Histories.{SlotsFit}
 use Rattle.desk_core.specs.Offices.{Tail, from_first, TakeTokens, StandsSince}
 use Rattle.desk_core.specs.Reading.{StartsOn}
-use Rattle.desk_core.specs.Serving.{Opened, AreToldBy, Recoverable, KeepsSlots, DiskServes}
+use Rattle.desk_core.specs.Serving.{Opened, LegalOn, AreToldBy, Recoverable, KeepsSlots, DiskServes}
 use Rattle.desk_core.specs.declared.fault.DeskFault.{DeskFault}
 use Rattle.desk_core.specs.declared.fault.DeskFault.TheVariants as faults
 
@@ -67,7 +66,7 @@ pub record StandsFor {D C : Type 0} (d : disks.Ghosts D)
   pub limit : desk.limit ≡ opened.limit
   pub faults : (opened.faults ≤ d.fault_count desk.disk) × AreToldBy (d.fault_count desk.disk) calls
   pub holds : desk.stale ≡ false
-      → (history : List Entry) × Legal d.honest opened.limit opened.faults calls opened.history history
+      → (history : List Entry) × LegalOn d.honest opened calls history
       × HoldsHistory d history desk
   pub serves : DiskServes d opened desk.disk calls
   -- each slot fits the history from which it was opened, and so each longer one

@@ -9,8 +9,8 @@ use Rattle.office_types.specs.declared.reply.Reply.{Reply}
 use Rattle.office_types.specs.declared.refusal.Refusal.{Refusal}
 use Rattle.office_types.specs.declared.refusal.Refusal.TheVariants.{NoMemory}
 use Rattle.desk_core.specs.Answers.{Call}
-use Rattle.desk_core.specs.Calls.{Legal, moment_after}
-use Rattle.desk_core.specs.Serving.{Opened}
+use Rattle.desk_core.specs.Calls.{moment_after}
+use Rattle.desk_core.specs.Serving.{Opened, LegalOn}
 
 -- this office's reply to a query, as of the later of the number and its last moment; or memory is wanting
 abbrev pub IsReplyOf : ℕ → Query → Office → Result Reply Refusal → Type 0
@@ -26,5 +26,5 @@ pub record IsRead (told : ℕ) (query : Query) (history : List Entry) (reply : R
 -- it is of a history to which these calls lead
 abbrev pub IsReadAfter : Bool → Opened → List Call → ℕ → Query → Result Reply Refusal → Type 0
 IsReadAfter honest opened calls told query reply =
-    (history : List Entry) × Legal honest opened.limit opened.faults calls opened.history history
+    (history : List Entry) × LegalOn honest opened calls history
     × IsRead told query history reply

@@ -9,7 +9,6 @@ use Rattle.office_types.specs.declared.command.Entry.{Entry}
 use Rattle.desk_core.specs.declared.clock.Clock as clocks
 use Rattle.desk_core.specs.Answers.{Call}
 use Rattle.desk_core.specs.Submitting.{Submits}
-use Rattle.desk_core.specs.Calls.{Legal}
 use Rattle.slots.specs.Causes.{HasSaveCause}
 use Rattle.slots.specs.declared.fault.SaveFault.{SaveFault}
 use Rattle.desk_core.specs.Closing.{Closes}
@@ -18,7 +17,7 @@ use Rattle.desk_core.specs.Histories.{HasAcceptedHistory, IsSound, IsPrefixOf, I
 use Rattle.desk_core.specs.Numbers.{AreNumbers}
 use Rattle.desk_core.specs.Opening.{Opens}
 use Rattle.desk_core.specs.Turns.{Moves}
-use Rattle.desk_core.specs.Serving.{Opened, Recoverable, AreToldBy, KeepsSlots, DiskServes}
+use Rattle.desk_core.specs.Serving.{Opened, LegalOn, Recoverable, AreToldBy, KeepsSlots, DiskServes}
 
 -- whether the desk is stale after these calls
 abbrev pub stale_by : Bool → List Call → Bool
@@ -93,7 +92,7 @@ module _ {D C : Type 0} (d : disks.Ghosts D) (k : clocks.Ghosts C) where
     pub limit_is : opened.limit ≡ limit
     pub faults : opened.faults ≡ d.fault_count old.disk
     pub history : List Entry
-    pub legal : Legal d.honest opened.limit opened.faults calls opened.history history
+    pub legal : LegalOn d.honest opened calls history
     pub disk : KeepsCalls d old.disk new.disk opened calls history
 
   -- The office was opened over what stands under it, answered these calls in order, and was closed.

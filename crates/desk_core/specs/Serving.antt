@@ -1,11 +1,11 @@
 -- What a disk owes to the calls of a desk: what a crash at any moment since its opening leaves of them.
-use Rattle.std.specs.Prelude.{◌≡◌, ℕ, zero, suc, ◌<◌, ◌≤◌, true, List, [], ◌∷◌, take, length, Ok, Err, Result}
+use Rattle.std.specs.Prelude.{◌≡◌, ℕ, zero, suc, ◌<◌, ◌≤◌, Bool, true, List, [], ◌∷◌, take, length, Ok, Err, Result}
 use Rattle.disk_core.specs.declared.disk.Disk as disks
 use Rattle.disk_core.specs.Files.{State, IsImage}
 use Rattle.office_types.specs.declared.command.Entry.{Entry}
 use Rattle.meter_journal.specs.History.{header, end_gate}
 use Rattle.desk_core.specs.Answers.{Answer, Call}
-use Rattle.desk_core.specs.Calls.{Legal}
+use Rattle.desk_core.specs.Calls.{AreLegal}
 use Rattle.desk_core.specs.Histories.{HasAcceptedHistory, IsPrefixOf, IsPrefixButOne}
 use Rattle.desk_core.specs.declared.fault.DeskFault.{DeskFault}
 use Rattle.desk_core.specs.declared.fault.DeskFault.TheVariants as faults
@@ -41,6 +41,14 @@ pub record Opened : Type 0 where
   pub faults : ℕ
   pub moment : ℕ
 
+-- the calls, each legal, lead from the history at the opening to this one
+abbrev pub LegalOn : Bool → Opened → List Call → List Entry → Type 0
+LegalOn honest opened calls history = AreLegal honest opened.limit opened.faults calls opened.history history
+
+-- on an honest disk
+abbrev pub Legal : Opened → List Call → List Entry → Type 0
+Legal = LegalOn true
+
 -- ---- what a crash leaves
 
 -- Left by a crash at this moment or later: the image has the history after some number of the first calls, and each
@@ -50,14 +58,14 @@ pub record Recovers (opened : Opened) (calls : List Call) (moment : ℕ) (image 
   pub has : HasAcceptedHistory history image
   pub count : ℕ
   pub most : count ≤ length calls
-  pub legal : Legal true opened.limit opened.faults (take count calls) opened.history history
+  pub legal : Legal opened (take count calls) history
   pub acked : (place : ℕ) (answer : Answer) → IsAckedAt calls place answer → answer.disk_moment ≤ moment → place < count
 
 -- the image has the history after some number of the first calls
 abbrev pub HasFront : Opened → List Call → List ℕ → Type 0
 HasFront opened calls image =
     (history : List Entry) × (count : ℕ) × HasAcceptedHistory history image × (count ≤ length calls)
-    × Legal true opened.limit opened.faults (take count calls) opened.history history
+    × Legal opened (take count calls) history
 
 -- each image of the journal file does
 abbrev pub Recoverable : Opened → List Call → State → Type 0
@@ -85,7 +93,7 @@ module _ {D : Type 0} (d : disks.Ghosts D) where
     pub agrees : (place : ℕ) (answer : Answer) → IsAckedAt calls place answer → Agrees disk answer
     -- of every image now the calls are all there
     pub whole : (image : List ℕ) (history : List Entry) → IsImage (d.state disk).journal image
-        → HasAcceptedHistory history image → Legal true opened.limit opened.faults calls opened.history history
+        → HasAcceptedHistory history image → Legal opened calls history
     -- what a crash would have left is there still, but for one entry at its end
     pub steady : (t : ℕ) (s : State) (image : List ℕ) (history : List Entry) → opened.moment ≤ t → t ≤ d.moment disk
         → d.had_since disk t s → IsImage s.journal image → HasAcceptedHistory history image

@@ -10,18 +10,18 @@ use Rattle.office_types.specs.declared.command.Ask.{Ask}
 use Rattle.office_types.specs.declared.command.Entry.{Entry}
 use Rattle.desk_core.specs.Answers.{Answer, Call}
 use Rattle.desk_core.specs.Submitting.{Submits}
-use Rattle.desk_core.specs.Calls.{Legal}
+use Rattle.desk_core.specs.Calls.{AreLegal}
 use Rattle.desk_core.specs.Desk.{DeskView, StandsFor}
-use Rattle.desk_core.specs.Serving.{Opened}
+use Rattle.desk_core.specs.Serving.{Opened, LegalOn}
 use Rattle.desk_core.specs.Turns.{Moves, calls_from, Reaches, LegalSince}
 use Rattle.desk_core.specs.declared.clock.Clock as clocks
 use Rattle.desk_core.specs.declared.fault.DeskFault.{DeskFault}
 
 -- calls that are legal over an honest disk are legal over this one, which is honest
 pub honest_legal : (honest : Bool) (limit counted : ℕ) (calls : List Call) (before after : List Entry) → IsTrue honest
-    → Legal true limit counted calls before after → Legal honest limit counted calls before after
+    → AreLegal true limit counted calls before after → AreLegal honest limit counted calls before after
 honest_legal honest limit counted calls before after tells rule =
-    subst (λ (b : Bool). Legal b limit counted calls before after) (sym tells) rule
+    subst (λ (b : Bool). AreLegal b limit counted calls before after) (sym tells) rule
 
 module _ {D C : Type 0} (d : disks.Ghosts D) (k : clocks.Ghosts C) where
   abbrev Step : DeskView D C → Ask → Result Answer DeskFault → DeskView D C → Type 0
@@ -43,7 +43,7 @@ module _ {D C : Type 0} (d : disks.Ghosts D) (k : clocks.Ghosts C) where
       → IsImage (file_in file (d.state disk)) (seen_in file (d.state disk))) where
     module _ (opened : Opened) (calls : List Call) (desk : DeskView D C) (s : StandsFor d opened calls desk) where
       abbrev Leads : Type 0
-      Leads = (history : List Entry) × Legal d.honest opened.limit opened.faults calls opened.history history
+      Leads = (history : List Entry) × LegalOn d.honest opened calls history
 
       -- the history is that of the bytes that the disk reads
       legal : Leads

@@ -5,9 +5,8 @@ use Rattle.office_types.specs.declared.command.Ask.{Ask}
 use Rattle.office_types.specs.declared.command.Entry.{Entry}
 use Rattle.desk_core.specs.Answers.{Answer, Call}
 use Rattle.desk_core.specs.Submitting.{Submits}
-use Rattle.desk_core.specs.Calls.{Legal}
 use Rattle.desk_core.specs.Desk.{DeskView, StandsFor}
-use Rattle.desk_core.specs.Serving.{Opened}
+use Rattle.desk_core.specs.Serving.{Opened, LegalOn}
 use Rattle.desk_core.specs.declared.clock.Clock as clocks
 use Rattle.desk_core.specs.declared.fault.DeskFault.{DeskFault}
 
@@ -30,4 +29,4 @@ module _ {D C : Type 0} (d : disks.Ghosts D) where
   abbrev pub LegalSince : DeskView D C → List (Ask × Result Answer DeskFault) → Type 0
   LegalSince first pairs =
       (opened : Opened) → StandsFor d opened [] first
-      → (history : List Entry) × Legal d.honest opened.limit opened.faults (calls_from pairs) opened.history history
+      → (history : List Entry) × LegalOn d.honest opened (calls_from pairs) history

@@ -19,7 +19,7 @@ use Rattle.meter_journal.proofs.History.{each_image, end_gate-none}
 use Rattle.desk_core.specs.declared.clock.Clock as clocks
 use Rattle.desk_core.specs.Answers.{Answer, Call}
 use Rattle.desk_core.specs.Submitting.{IsOffice, HasCauses, Unopened}
-use Rattle.desk_core.specs.Calls.{IsAnswered, Legal}
+use Rattle.desk_core.specs.Calls.{IsAnswered, AreLegal}
 use Rattle.desk_core.specs.Desk.{DeskView, HoldsHistory, StandsFor, GoesOn}
 use Rattle.desk_core.specs.Opening.{Opens, opened_with}
 use Rattle.desk_core.specs.Serving.{Opened}
@@ -84,7 +84,7 @@ module _ {D C : Type 0} {d : disks.Ghosts D} (laws : DiskLaws d) where
       let goes = stands (opened_with d history desk) [] (stands_now history desk tells holds) in
       let found = goes.stands.holds fresh_new in
       let legal = found.1 in
-      let rule = subst (λ (b : Bool). Legal b desk.limit (d.fault_count desk.disk) (record { ask = question; said = Ok said } ∷ []) history found.0) tells legal in
+      let rule = subst (λ (b : Bool). AreLegal b desk.limit (d.fault_count desk.disk) (record { ask = question; said = Ok said } ∷ []) history found.0) tells legal in
       let grown = calls_grow desk.limit (d.fault_count desk.disk) (record { ask = question; said = Ok said } ∷ []) history found.0 rule in (
         found.0,
         subst (λ (after : List Entry). IsSomeAnd (run history) (λ office. IsAnswered desk.limit question office said history after)) (sym legal.2) legal.1,
