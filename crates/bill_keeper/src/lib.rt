@@ -9,8 +9,6 @@ mod row_bills;
 mod sheet;
 mod sqlite_keeper;
 mod statements;
-#[cfg(test)]
-mod tests;
 
 pub use bill_book::{Bill, BillKeeper, KeeperFault, MapKeeper, Posted};
 pub use opening::create_table;

@@ -13,3 +13,5 @@ mod look_tests;
 mod parts;
 #[cfg(test)]
 mod sessions;
+#[cfg(test)]
+mod slots_tests;

@@ -6,8 +6,6 @@ mod fault;
 mod finding;
 mod heads;
 mod saving;
-#[cfg(test)]
-mod tests;
 mod writing;
 
 pub use body::Body;

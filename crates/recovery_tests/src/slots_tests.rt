@@ -1,9 +1,9 @@
-// Checkpoints on a disk in memory.
+// The two slots, over bodies that begin with 1.
 ghost use Rattle.std.specs.Prelude.{◌≡◌, get_or};
 
-use crate::{Body, load, save};
 use disk_core::{Disk, FileNo, MemoryDisk};
 use office_base::NoMemory;
+use slots::{Body, load, save};
 use std::alloc::Global;
 use std::test::Fail;
 
