@@ -9,11 +9,7 @@ use Rattle.command_line.specs.declared.line.CommandLine.{CommandLine}
 use Rattle.command_line.specs.declared.line.CommandLine.TheVariants as command_line
 use Rattle.command_line.proofs.Ranges.{explain_in_range}
 use Rattle.http_front.specs.declared.replies.Replies as sinks
-use Rattle.disk_core.specs.declared.disk.Disk as disks
-use Rattle.desk_core.specs.declared.clock.Clock as clocks
-use Rattle.http_wire.specs.declared.source.Source as sources
-use Rattle.bill_book.specs.declared.keeper.BillKeeper as keepers
-use Rattle.office_program.specs.Carrying.{NeedsNoPort, Setting, CarriesOut}
+use Rattle.office_program.specs.Carrying.{NeedsNoPort}
 use Rattle.office_program.specs.Commands.{FaultCounts, IsCaused, TouchesOwn}
 
 -- a count that stands at 0 did not rise

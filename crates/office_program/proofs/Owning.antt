@@ -2,7 +2,7 @@
 use Rattle.std.proofs.Common.{◌≡◌, ◌⊎◌, ◌∙◌, ⊎_elim, inl, inr, sym, ℕ, List, Option, Some}
 use Rattle.command_line.specs.Lines.{Line, init, run, serve, bill, forecast}
 use Rattle.http_front.specs.declared.replies.Replies as sinks
-use Rattle.office_program.specs.Commands.{IsServe, IsBill, IsForecastLine, ReadsInput, TouchesOwn}
+use Rattle.office_program.specs.Commands.{IsServe, IsBill, IsForecastLine, TouchesOwn}
 use Rattle.office_commands.specs.Running.{SaysNoReply, NotesNothing}
 
 -- ---- what a line is not

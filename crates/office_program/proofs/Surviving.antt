@@ -15,10 +15,10 @@ use Rattle.serving.specs.Serving.{log_calls}
 use Rattle.office_commands.specs.Billing.{billing, BillsMonth}
 use Rattle.office_commands.specs.Forecasting.{asking, ForecastsBucket}
 use Rattle.office_commands.specs.Reporting.{TellsMonth}
-use Rattle.office_commands.specs.Running.{Surroundings, around, journal_limit, AnswersStream, Starts}
+use Rattle.office_commands.specs.Running.{Surroundings, around, journal_limit, AnswersStream, SaysNoReply, Starts}
 use Rattle.office_program.specs.Carrying.{CarriesOut}
 use Rattle.office_program.specs.Program.{Does}
-use Rattle.office_program.specs.Survival.{AreAsked, AnswersSafely}
+use Rattle.office_program.specs.Survival.{AreAsked, AnswersNothing, AnswersSafely}
 use Rattle.office_program.specs.Workers.{AnswersWorkers, Connects}
 use Rattle.office_program.specs.Worlds.{World, Parts, place_of, setting_of}
 use Rattle.office_program.proofs.Soundness.{not_none}
@@ -31,7 +31,14 @@ module _ {S D C W P Source Replies K : Type 0} (g : Parts S D C W P Source Repli
   Stays old new = KeepsTo g.disk old new (Narrower (g.disk.state old))
 
   abbrev Saves : Option Line → World S D C W P K → World S D C W P K → Type 0
-  Saves line old new = KeepsTo g.disk old.disk new.disk (Narrower (g.disk.state old.disk)) ⊎ AnswersSafely g line old new
+  Saves line old new = AnswersNothing g old new ⊎ AnswersSafely g line old new
+
+  abbrev IsNoServe : Line → Type 0
+  IsNoServe line = (listen : List ℕ) (workers connections : ℕ) → line ≡ serve listen workers connections → ⊥
+
+  -- no reply was said for a line that is neither `run` nor `serve`
+  abbrev IsUnsaid : Line → World S D C W P K → World S D C W P K → Type 0
+  IsUnsaid line old new = (Some line ≡ Some run → ⊥) → IsNoServe line → SaysNoReply g.out old.out new.out
 
   -- the calls that an office answered are safe
   pub answers_safely : (line : Option Line) (old new : World S D C W P K) (clock : C) (calls : List Call)
@@ -54,50 +61,77 @@ module _ {S D C W P Source Replies K : Type 0} (g : Parts S D C W P Source Repli
 
   -- a command that asks the clock first
   starts_survives : (left_alone : Type 0) (answers : ℕ → Surroundings D C W → Surroundings D C W → ℕ → Type 0)
-      (line : Option Line) (old new : World S D C W P K) (status : ℕ)
+      (line : Option Line) (old new : World S D C W P K) (status : ℕ) → (left_alone → new.port ≡ old.port)
       → ((first : ℕ) (clock : C) → answers first (around old.disk clock old.out) (place_of new) status → Saves line old new)
       → Stays old.disk old.disk → Starts g.disk g.clock g.out left_alone answers (place_of old) (place_of new) status → Saves line old new
-  starts_survives left_alone answers line old new status saves still starts =
+  starts_survives left_alone answers line old new status alone saves still starts =
       ⊎_elim
       (λ does. ⊎_elim
       (λ answered. saves starts.first starts.clock answered)
-      (λ refused. inl (refused.0.refused.any_moment honest)) does.1)
-      (λ ends. inl (subst (λ (disk : D). Stays old.disk disk) (sym ends.1.untouched) still)) starts.does
+      (λ refused. inl (record {
+        kept = refused.0.refused.any_moment honest;
+        unsaid = refused.0.refused.silent.0;
+        unused = alone refused.1;
+      })) does.1)
+      (λ ends. inl (record {
+        kept = subst (λ (disk : D). Stays old.disk disk) (sym ends.1.untouched) still;
+        unsaid = ends.1.silent.0;
+        unused = alone ends.2;
+      })) starts.does
 
   -- every command line
   pub does_survive : (line : Line) (old new : World S D C W P K) (status : ℕ) → IsSound (g.disk.state old.disk)
       → (history : List Entry) → HasAcceptedHistory history (g.disk.state old.disk).journal.seen
-      → Stays old.disk old.disk → Does g line old new status → Saves (Some line) old new
-  does_survive init old new status sound history has still does =
-      inl (does.0.unchanged honest (not_none (g.disk.state old.disk).journal.seen history has))
-  does_survive run old new status sound history has still does =
+      → Stays old.disk old.disk → IsUnsaid line old new → (IsNoServe line → new.port ≡ old.port) → Does g line old new status → Saves (Some line) old new
+  does_survive init old new status sound history has still unsaid port does = inl (record {
+    kept = does.0.unchanged honest (not_none (g.disk.state old.disk).journal.seen history has);
+    unsaid = (unsaid (λ is. absurd cc) (λ listen workers connections is. absurd cc)).0;
+    unused = port (λ listen workers connections is. absurd cc);
+  })
+  does_survive run old new status sound history has still unsaid port does =
       starts_survives (new.input ≡ old.input)
       (λ first. AnswersStream g.disk g.clock g.out (stream_ends (g.input.left old.input) (g.input.left new.input)))
-      (Some run) old new status
+      (Some run) old new status (λ _. port (λ listen workers connections is. absurd cc))
       (λ first clock a. inr (answers_safely (Some run) old new clock (calls_of a.talk.spoken.exchanges)
       (record { end = a.end; talk = a.talk; asked = refl; said = a.said_all; stamped = a.stamped }) sound a.answers))
       still does
-  does_survive (serve listen workers connections) old new status sound history has still does =
+  does_survive (serve listen workers connections) old new status sound history has still unsaid port does =
       starts_survives (new.port ≡ old.port)
       (λ first. AnswersWorkers g.disk g.clock g.out (Connects g.port listen workers connections old.port new.port))
-      (Some (serve listen workers connections)) old new status
+      (Some (serve listen workers connections)) old new status (λ same. same)
       (λ first clock a. inr (answers_safely (Some (serve listen workers connections)) old new clock (log_calls a.log)
       (record { end = a.end; log = a.log; asked = refl; connects = a.connections }) sound a.answers))
       still does
-  does_survive (report month as_text) old new status sound history has still does =
-      starts_survives (Unit {0}) (TellsMonth g.disk g.out month as_text) (Some (report month as_text)) old new status
-      (λ first clock told. inl (told.any_moment honest)) still does
-  does_survive (explain workers) old new status sound history has still (inl told) = inl (told.any_moment honest)
-  does_survive (explain workers) old new status sound history has still (inr failed) = inl (failed.refused.any_moment honest)
-  does_survive (gen number count) old new status sound history has still does =
-      inl (subst (λ (disk : D). Stays old.disk disk) (sym does.1) still)
-  does_survive (bill month) old new status sound history has still does =
+  does_survive (report month as_text) old new status sound history has still unsaid port does =
+      let same = port (λ listen workers connections is. absurd cc) in
+      starts_survives (Unit {0}) (TellsMonth g.disk g.out month as_text) (Some (report month as_text)) old new status (λ _. same)
+      (λ first clock told. inl (record { kept = told.any_moment honest; unsaid = (unsaid (λ is. absurd cc) (λ listen workers connections is. absurd cc)).0; unused = same })) still does
+  does_survive (explain workers) old new status sound history has still unsaid port (inl told) = inl (record {
+    kept = told.any_moment honest;
+    unsaid = (unsaid (λ is. absurd cc) (λ listen workers connections is. absurd cc)).0;
+    unused = port (λ listen workers connections is. absurd cc);
+  })
+  does_survive (explain workers) old new status sound history has still unsaid port (inr failed) = inl (record {
+    kept = failed.refused.any_moment honest;
+    unsaid = (unsaid (λ is. absurd cc) (λ listen workers connections is. absurd cc)).0;
+    unused = port (λ listen workers connections is. absurd cc);
+  })
+  does_survive (gen number count) old new status sound history has still unsaid port does = inl (record {
+    kept = subst (λ (disk : D). Stays old.disk disk) (sym does.1) still;
+    unsaid = (unsaid (λ is. absurd cc) (λ listen workers connections is. absurd cc)).0;
+    unused = port (λ listen workers connections is. absurd cc);
+  })
+  does_survive (bill month) old new status sound history has still unsaid port does =
+      let same = port (λ listen workers connections is. absurd cc) in
       starts_survives (new.keeper ≡ old.keeper) (BillsMonth g.disk g.out g.keeper (billing month old.keeper new.keeper)) (Some (bill month))
-      old new status (λ first clock told. inl (told.any_moment honest)) still does
-  does_survive (forecast bucket day) old new status sound history has still does =
+      old new status (λ _. same)
+      (λ first clock told. inl (record { kept = told.any_moment honest; unsaid = (unsaid (λ is. absurd cc) (λ listen workers connections is. absurd cc)).0; unused = same })) still does
+  does_survive (forecast bucket day) old new status sound history has still unsaid port does =
+      let same = port (λ listen workers connections is. absurd cc) in
       starts_survives (new.input ≡ old.input)
       (ForecastsBucket g.disk g.out (asking bucket day) (stream_ends (g.input.left old.input) (g.input.left new.input)))
-      (Some (forecast bucket day)) old new status (λ first clock told. inl (told.any_moment honest)) still does
+      (Some (forecast bucket day)) old new status (λ _. same)
+      (λ first clock told. inl (record { kept = told.any_moment honest; unsaid = (unsaid (λ is. absurd cc) (λ listen workers connections is. absurd cc)).0; unused = same })) still does
 
 module _ {S D C W P Source Replies K : Type 0} (g : Parts S D C W P Source Replies K) where
   -- what needs no port is done

@@ -7,9 +7,8 @@ use Rattle.disk_core.specs.Moments.{KeepsTo}
 use Rattle.office_types.specs.declared.command.Entry.{Entry}
 use Rattle.command_line.specs.Lines.{Line, run, serve}
 use Rattle.desk_core.specs.Answers.{Call}
-use Rattle.desk_core.specs.Calls.{Legal}
 use Rattle.desk_core.specs.Histories.{HasAcceptedHistory, IsSound}
-use Rattle.desk_core.specs.Serving.{Opened, Recovers}
+use Rattle.desk_core.specs.Serving.{Opened, LegalOn, Recovers}
 use Rattle.http_front.specs.Counts.{stream_ends}
 use Rattle.http_front.specs.Exchanges.{calls_of, moments_of}
 use Rattle.http_front.specs.Session.{Transcript}
@@ -53,7 +52,7 @@ module _ {S D C W P Source Replies K : Type 0} (g : Parts S D C W P Source Repli
     pub read : HasAcceptedHistory opened.history (g.disk.state old.disk).journal.seen
     -- the plain office allows the calls with their answers, and has this history after them
     pub history : List Entry
-    pub legal : Legal g.disk.honest opened.limit opened.faults calls opened.history history
+    pub legal : LegalOn g.disk.honest opened calls history
     -- a crash before the opening leaves what it would have left at the entry
     pub opening : D
     pub begun : opened.moment ≡ g.disk.moment opening
@@ -63,8 +62,15 @@ module _ {S D C W P Source Replies K : Type 0} (g : Parts S D C W P Source Repli
     pub recovers : (t : ℕ) (s : State) (image : List ℕ) → opened.moment ≤ t → t ≤ g.disk.moment new.disk
         → g.disk.had_since new.disk t s → IsImage s.journal image → Recovers opened calls t image
 
-  -- Over a sound disk, a crash at any moment leaves what it would have left at the entry; or the office answered calls,
-  -- and none of them is lost that was acknowledged.
+  -- The office answered no call: no reply was said, the port was not used, and a crash at any moment leaves what it would
+  -- have left at the entry.
+  pub record AnswersNothing (old new : World S D C W P K) : Type 0 where
+    pub kept : KeepsTo g.disk old.disk new.disk (Narrower (g.disk.state old.disk))
+    pub unsaid : g.out.said new.out ≡ g.out.said old.out
+    pub unused : new.port ≡ old.port
+
+  -- over a sound disk, the office answered no call, or it answered calls and a crash at any moment loses none that was
+  -- acknowledged
   abbrev pub Survives : Option Line → World S D C W P K → World S D C W P K → Type 0
   Survives line old new = IsTrue g.disk.honest → IsSound (g.disk.state old.disk)
-      → KeepsTo g.disk old.disk new.disk (Narrower (g.disk.state old.disk)) ⊎ AnswersSafely line old new
+      → AnswersNothing old new ⊎ AnswersSafely line old new

@@ -118,9 +118,9 @@ where
     K: BillKeeper,
     R: Threads + Wait + Sync,
 
-    // The claim. On a sound disk a crash at any moment leaves what it would have left at the entry; or the office
-    // answered calls that the plain office allows, and a crash leaves the history after some number of the first calls,
-    // with each one that was acknowledged by then.
+    // The claim. On a sound disk the office answered no call, and a crash at any moment leaves what it would have left
+    // at the entry; or it answered calls that the plain office allows, and a crash leaves the history after some number
+    // of the first calls, with each one that was acknowledged by then.
     ensures survives { Survives (parts S.Source D.Disk C.Clock W.Replies P.Port K.BillKeeper) (asks words.now)
         (world disk clock out.old input.old port.old keeper.old)
         (world result.disk result.clock out.new input.new port.new keeper.new) }

@@ -1,5 +1,3 @@
-use Rattle.disk_core.specs.Fronts.{Narrower}
-use Rattle.disk_core.specs.Moments.{KeepsTo}
 use Rattle.std.proofs.Common.{◌≡◌, ◌⊎◌, ⊎_elim, arith, inl, inr, refl, sym, Err, map, subst, string_bytes, Option, Some, ap, ◌∙◌}
 use Rattle.command_line.specs.Lines.{line_of}
 use Rattle.command_line.specs.declared.line.CommandLine.{CommandLine}
@@ -14,10 +12,10 @@ use Rattle.office_program.proofs.Done.{refusal_none, refusal_known, refusal_line
 use Rattle.office_program.proofs.Owning.{not_init}
 use Rattle.office_program.proofs.Soundness.{calls_sound, starts_sound}
 use Rattle.office_program.proofs.Surviving.{does_carried, does_served, does_survive}
-use Rattle.command_line.specs.Lines.{Line, init, run, serve, report, explain, gen, bill, forecast}
+use Rattle.command_line.specs.Lines.{Line, init, serve, bill, forecast}
 use Rattle.office_program.specs.Commands.{faults, IsDone}
 use Rattle.office_program.specs.Program.{Obeys}
-use Rattle.office_program.specs.Survival.{AnswersSafely}
+use Rattle.office_program.specs.Survival.{AnswersNothing, AnswersSafely}
 use Rattle.office_program.specs.Worlds.{parts, world}
 use Rattle.office_program.proofs.Obeying.{refusal_obeys}
 use Rattle.office_program.proofs.Carried.{never_rose, is_line, owned, caused, needs_no_port}
@@ -53,12 +51,17 @@ returns-in-Serve-clause-survives g c honest sound =
     let status = c.serve.result.status in
     let listen = string_bytes c.in-Serve.listen in
     let does = does_served all c.as_str.result.now listen workers connections old new status c.as_str.ensures.value c.serve.ensures.serves in
-    subst (λ (l : Option Line). KeepsTo g.D.Disk old.disk new.disk (Narrower (g.D.Disk.state old.disk)) ⊎ AnswersSafely all l old new)
+    subst (λ (l : Option Line). AnswersNothing all old new ⊎ AnswersSafely all l old new)
     (sym (c.in-Ok.ensures.read ∙ ap (λ (l : CommandLine). Some (line_of l)) c.in-Serve.is))
-    (does_survive all honest (serve listen workers connections) old new status sound has.0 has.1 c.sound_now.ensures.left does)
+    (does_survive all honest (serve listen workers connections) old new status sound has.0 has.1 c.sound_now.ensures.left
+    (λ _ none. absurd (none listen workers connections refl)) (λ none. absurd (none listen workers connections refl)) does)
 
 pub returns-in-Err-clause-survives : goal.returns-in-Err-clause-survives
-returns-in-Err-clause-survives g c honest sound = inl c.sound_now.ensures.left
+returns-in-Err-clause-survives g c honest sound = inl (record {
+  kept = c.sound_now.ensures.left;
+  unsaid = c.refuse_line-status.ensures.silent.0;
+  unused = refl;
+})
 
 pub returns-in_default-clause-survives : goal.returns-in_default-clause-survives
 returns-in_default-clause-survives g c honest sound =
@@ -67,9 +70,10 @@ returns-in_default-clause-survives g c honest sound =
     let line = line_of c.in-Ok.command in
     let old = world c.args.disk c.args.clock c.args.out.now c.args.input.now c.args.port.now c.args.keeper.now in
     let new = world c.carry_out.result.disk c.carry_out.result.clock c.carry_out.new.out c.carry_out.new.input c.args.port.now c.carry_out.new.keeper in
-    subst (λ (l : Option Line). KeepsTo g.D.Disk old.disk new.disk (Narrower (g.D.Disk.state old.disk)) ⊎ AnswersSafely all l old new)
+    subst (λ (l : Option Line). AnswersNothing all old new ⊎ AnswersSafely all l old new)
     (sym c.in-Ok.ensures.read)
     (does_survive all honest line old new c.carry_out.result.status sound has.0 has.1 c.sound_now.ensures.left
+    (λ no_run _. c.carry_out.ensures.only.unsaid no_run) (λ _. refl)
     (does_carried all line old new c.carry_out.result.status c.carry_out.ensures.does))
 
 -- ---- what is done
