@@ -97,7 +97,7 @@ module _ {S D C W P Source Replies K : Type 0} (g : Parts S D C W P Source Repli
       still does
   does_survive (serve listen workers connections) old new status sound history has still unsaid port does =
       starts_survives (new.port ≡ old.port)
-      (λ first. AnswersWorkers g.disk g.clock g.out (Connects g.port listen workers connections old.port new.port))
+      (λ first. AnswersWorkers g.disk g.clock g.out (Connects g.port g.gate listen workers connections old.port new.port))
       (Some (serve listen workers connections)) old new status (λ same. same)
       (λ first clock a. inr (answers_safely (Some (serve listen workers connections)) old new clock (log_calls a.log)
       (record { end = a.end; log = a.log; asked = refl; connects = a.connections }) sound a.answers))

@@ -34,7 +34,7 @@ module _ {S D C W P Source Replies K : Type 0} (g : Parts S D C W P Source Repli
     pub end : WorkerEnd
     pub log : Log
     pub asked : log_calls log ≡ calls
-    pub connects : Connects g.port listen workers connections old.port new.port end log
+    pub connects : Connects g.port g.gate listen workers connections old.port new.port end log
 
   -- for whom the calls were made; other command lines make none
   abbrev pub AreAsked : Option Line → World S D C W P K → World S D C W P K → List Call → Type 0

@@ -11,7 +11,7 @@ use Rattle.serving.specs.declared.port.Port as ports
 use Rattle.serving.specs.declared.worker.WorkerEnd.{WorkerEnd}
 use Rattle.serving.specs.declared.worker.WorkerEnd.TheVariants as workers
 use Rattle.serving.specs.Serving.{Log, log_calls, AreOfWorkers}
-use Rattle.serving.specs.Works.{Balances, RoseBy}
+use Rattle.serving.specs.Works.{Balances, IsServedBy, RoseBy}
 use Rattle.office_commands.specs.Lines.{fault_exit, line, store_after}
 use Rattle.office_commands.specs.Running.{journal_limit, Surroundings, under, IsSilent, IsNoted, Starts}
 
@@ -69,13 +69,15 @@ module _ {D C W : Type 0} (d : disks.Ghosts D) (k : clocks.Ghosts C) (w : sinks.
 
 module _ {P Source Replies : Type 0} (p : ports.Ghosts P Source Replies) where
   -- If the port had given no connection before, it and the workers' ports listen at the address, or it gave none. It
-  -- gave and ended as many connections as the workers served, all of them if all was done. If it tells its connections,
-  -- they are those for which the calls of the list were made.
-  pub record Connects (address : List ℕ) (workers connections : ℕ) (old new : P) (end : WorkerEnd) (log : Log)
-      : Type 0 where
+  -- gave and ended as many connections as the workers served, all of them if all was done. A worker that served fewer
+  -- ended by its own cause. The gate let each call of the list through. If the port reports its connections, they are
+  -- those for which the calls were made, and each worker has at most `connections` of them.
+  pub record Connects (lets : ℕ → ℕ → Type 0) (address : List ℕ) (workers connections : ℕ) (old new : P)
+      (end : WorkerEnd) (log : Log) : Type 0 where
     pub listens : (p.given old ≡ 0 → p.listens new address) ⊎ (p.given new ≡ p.given old)
     pub counts : Balances (workers * connections) end (p.given old) (p.given new) (p.ended old) (p.ended new)
-    pub divided : AreOfWorkers workers log (p.connections old) (p.connections new)
+    pub shifts : IsServedBy p workers connections end old new
+    pub divided : AreOfWorkers lets workers connections log (p.connections old) (p.connections new)
 
   -- the port is unchanged, or was given back, ended, as many connections as it gave
   abbrev pub IsBalanced : P → P → Type 0

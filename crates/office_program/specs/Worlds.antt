@@ -1,4 +1,5 @@
 -- What the program works on, and what each part of it reports.
+use Rattle.std.specs.Prelude.{ℕ}
 use Rattle.disk_core.specs.declared.disk.Disk as disks
 use Rattle.desk_core.specs.declared.clock.Clock as clocks
 use Rattle.bill_book.specs.declared.keeper.BillKeeper as keepers
@@ -32,21 +33,29 @@ module _ {S D C W P K : Type 0} where
   abbrev pub setting_of : World S D C W P K → Setting S D C W K
   setting_of at = setting at.disk at.clock at.out at.input at.keeper
 
--- what each part reports
+-- what each part reports; of the gate, the calls that it let through, by worker and number
 pub record Parts (S D C W P Source Replies K : Type 0) : Type 1 where
   pub input : sources.Ghosts S
   pub disk : disks.Ghosts D
   pub clock : clocks.Ghosts C
   pub out : sinks.Ghosts W
   pub port : ports.Ghosts P Source Replies
+  pub gate : ℕ → ℕ → Type 0
   pub keeper : keepers.Ghosts K
 
 module _ {S D C W P Source Replies K : Type 0} where
-  -- this input, disk, clock, output, port and keeper
+  -- this input, disk, clock, output, port, gate and keeper
   abbrev pub parts : sources.Ghosts S → disks.Ghosts D → clocks.Ghosts C → sinks.Ghosts W
-      → ports.Ghosts P Source Replies → keepers.Ghosts K → Parts S D C W P Source Replies K
-  parts input disk clock out port keeper =
-      record { input = input; disk = disk; clock = clock; out = out; port = port; keeper = keeper }
+      → ports.Ghosts P Source Replies → (ℕ → ℕ → Type 0) → keepers.Ghosts K → Parts S D C W P Source Replies K
+  parts input disk clock out port gate keeper = record {
+    input = input;
+    disk = disk;
+    clock = clock;
+    out = out;
+    port = port;
+    gate = gate;
+    keeper = keeper;
+  }
 
 module _ {S D C W P Source Replies K : Type 0} (g : Parts S D C W P Source Replies K) where
   -- how often each has failed so far; the clock cannot

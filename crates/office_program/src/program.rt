@@ -121,42 +121,49 @@ where
     // The claim. On a sound disk the office answered no call, and a crash at any moment leaves what it would have left
     // at the entry; or it answered calls that the plain office allows, and a crash leaves the history after some number
     // of the first calls, with each one that was acknowledged by then.
-    ensures survives { Survives (parts S.Source D.Disk C.Clock W.Replies P.Port K.BillKeeper) (asks words.now)
+    ensures survives { Survives
+        (parts S.Source D.Disk C.Clock W.Replies P.Port (G.let_through gate.now) K.BillKeeper) (asks words.now)
         (world disk clock out.old input.old port.old keeper.old)
         (world result.disk result.clock out.new input.new port.new keeper.new) }
 
     // What each command does, if memory suffices to read the words. Words that are none are refused.
-    ensures does { Obeys (parts S.Source D.Disk C.Clock W.Replies P.Port K.BillKeeper) (asks words.now)
+    ensures does { Obeys
+        (parts S.Source D.Disk C.Clock W.Replies P.Port (G.let_through gate.now) K.BillKeeper) (asks words.now)
         (world disk clock out.old input.old port.old keeper.old)
         (world result.disk result.clock out.new input.new port.new keeper.new) result.status }
 
     // Each command touches only its own part. Whatever the exit code, each connection that the port gave was given
     // back, ended.
-    ensures only { Touches (parts S.Source D.Disk C.Clock W.Replies P.Port K.BillKeeper) (asks words.now)
+    ensures only { Touches
+        (parts S.Source D.Disk C.Clock W.Replies P.Port (G.let_through gate.now) K.BillKeeper) (asks words.now)
         (world disk clock out.old input.old port.old keeper.old)
         (world result.disk result.clock out.new input.new port.new keeper.new) result.status }
     ensures balanced { IsBalanced P.Port port.old port.new }
 
     // Each status has its cause.
-    ensures causes { HasExitCause (parts S.Source D.Disk C.Clock W.Replies P.Port K.BillKeeper) (asks words.now)
+    ensures causes { HasExitCause
+        (parts S.Source D.Disk C.Clock W.Replies P.Port (G.let_through gate.now) K.BillKeeper) (asks words.now)
         (world disk clock out.old input.old port.old keeper.old)
         (world result.disk result.clock out.new input.new port.new keeper.new) result.status }
 
     // A sound disk is opened, and stays sound at every moment. It is sound if whatever a crash leaves of its three
     // files has one history.
-    ensures sound { StaysSound (parts S.Source D.Disk C.Clock W.Replies P.Port K.BillKeeper)
+    ensures sound { StaysSound (parts S.Source D.Disk C.Clock W.Replies P.Port (G.let_through gate.now) K.BillKeeper)
         (world disk clock out.old input.old port.old keeper.old)
         (world result.disk result.clock out.new input.new port.new keeper.new) result.status }
 
     // A command line is done if nothing outside fails and the clock is not at its end; a closed month is billed; what
     // can be forecast is forecast.
-    ensures complete { MustBeDone (parts S.Source D.Disk C.Clock W.Replies P.Port K.BillKeeper) (asks words.now)
+    ensures complete { MustBeDone
+        (parts S.Source D.Disk C.Clock W.Replies P.Port (G.let_through gate.now) K.BillKeeper) (asks words.now)
         (world disk clock out.old input.old port.old keeper.old)
         (world result.disk result.clock out.new input.new port.new keeper.new) result.status }
-    ensures billable { MustBill (parts S.Source D.Disk C.Clock W.Replies P.Port K.BillKeeper) (asks words.now)
+    ensures billable { MustBill
+        (parts S.Source D.Disk C.Clock W.Replies P.Port (G.let_through gate.now) K.BillKeeper) (asks words.now)
         (world disk clock out.old input.old port.old keeper.old)
         (world result.disk result.clock out.new input.new port.new keeper.new) result.status }
-    ensures forecastable { MustForecast (parts S.Source D.Disk C.Clock W.Replies P.Port K.BillKeeper) (asks words.now)
+    ensures forecastable { MustForecast
+        (parts S.Source D.Disk C.Clock W.Replies P.Port (G.let_through gate.now) K.BillKeeper) (asks words.now)
         (world disk clock out.old input.old port.old keeper.old)
         (world result.disk result.clock out.new input.new port.new keeper.new) result.status }
 {

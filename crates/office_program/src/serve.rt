@@ -86,7 +86,8 @@ where
 
     ensures answers { (disk : D) (clock : C)
         → Opens D.Disk disk clock journal_limit desk
-        → AnswersWorkers D.Disk C.Clock W.Replies (Connects P.Port address.now workers connections port.old port.new)
+        → AnswersWorkers D.Disk C.Clock W.Replies
+        (Connects P.Port (G.let_through gate.now) address.now workers connections port.old port.new)
         (around disk clock out.old) (around result.disk result.clock out.new) result.status }
     ensures later { (W.faults out.old ≤ W.faults out.new) × (D.fault_count desk.disk ≤ D.fault_count result.disk) }
     ensures statuses { IsWorkersExit result.status }
@@ -125,7 +126,7 @@ where
     requires few { (0 < workers) × (workers ≤ 64) }
 
     ensures works { AnswersWorkers D.Disk C.Clock W.Replies
-        (Connects P.Port address.now workers connections port.old port.new)
+        (Connects P.Port (G.let_through gate.now) address.now workers connections port.old port.new)
         (around disk clock out.old) (around result.disk result.clock out.new) result.status
         ⊎ (FailsToOpen D.Disk C.Clock W.Replies (around disk clock out.old) (around result.disk result.clock out.new)
         result.status × (port.new ≡ port.old)) }
@@ -180,7 +181,7 @@ where
     requires few { (0 < workers) × (workers ≤ 64) }
 
     ensures serves { ServesPort D.Disk C.Clock W.Replies (port.new ≡ port.old)
-        (Connects P.Port address.now workers connections port.old port.new)
+        (Connects P.Port (G.let_through gate.now) address.now workers connections port.old port.new)
         (around disk clock out.old) (around result.disk result.clock out.new) result.status }
     ensures sound { IsTrue D.honest → IsSound (D.state disk) → result.status ≡ 5 → ⊥ }
     ensures unopened { (result.status ≡ 5) ⊎ (result.status ≡ 8) → port.new ≡ port.old }

@@ -218,6 +218,8 @@ struct HoldingGate<'a> {
 }
 
 impl<'a> Gate for HoldingGate<'a> {
+    ghost let_through = { λ gate worker call. ⊤ };
+
     fn pass<R: Wait>(&self, _rt: &R, worker: u32, call: u64) {
         if worker != self.held || call != 1 {
             return;

@@ -1,5 +1,5 @@
 // Two passes on one office, each in a thread of its own.
-ghost use Rattle.std.specs.Prelude.{◌≡◌, ◌⊎◌, ◌<◌, ℕ, [], ◌∷◌, length, slice_index_or, IsSome, IfSome, Some, None};
+ghost use Rattle.std.specs.Prelude.{◌≡◌, ◌⊎◌, ◌<◌, ℕ, [], ◌∷◌, length, slice_index_or, IsSome, IfSome, Some, None, ⊤};
 ghost use Rattle.turn_core.specs.Passes.{IsPassOf, view};
 ghost use Rattle.turn_core.specs.Views.{left, right};
 ghost use Rattle.serving.specs.Askers.{AsksOnce};
@@ -59,6 +59,8 @@ impl HoldingGate {
 }
 
 impl Gate for HoldingGate {
+    ghost let_through = { λ gate worker call. ⊤ };
+
     fn pass<R: Wait>(&self, _rt: &R, worker: u32, _call: u64) {
         self.passed.fetch_add(1, Ordering::SeqCst);
         if worker != self.held {
@@ -96,8 +98,8 @@ impl<'a, D: Disk + Drop, C: Clock + Drop, R: Wait> Asker<'a, D, C, R> {
     }
 
     fn ask_once(&mut self)
-        ensures { AsksOnce ⟦<Desk<D, C> as Turned>⟧.lawful self.old.seated self.old.ask.now self.new.said
-            self.new.seated }
+        ensures { AsksOnce ⟦<HoldingGate as Gate>⟧.let_through ⟦<Desk<D, C> as Turned>⟧.lawful self.old.seated
+            self.old.ask.now self.new.said self.new.seated }
     {
         self.said = Some(self.seated.ask(self.ask));
         self.gate.answered.store(1, Ordering::SeqCst);
@@ -129,9 +131,9 @@ where
     R: Threads + Wait + Sync,
     requires { 0 < length askers.old }
     ensures { (i : ℕ) (d : _) → i < length askers.old
-        → AsksOnce ⟦<Desk<D, C> as Turned>⟧.lawful (slice_index_or askers.old i d).seated
-        (slice_index_or askers.old i d).ask.now (slice_index_or askers.new i d).said
-        (slice_index_or askers.new i d).seated }
+        → AsksOnce ⟦<HoldingGate as Gate>⟧.let_through ⟦<Desk<D, C> as Turned>⟧.lawful
+        (slice_index_or askers.old i d).seated (slice_index_or askers.old i d).ask.now
+        (slice_index_or askers.new i d).said (slice_index_or askers.new i d).seated }
 {
     let threads = askers.len();
     thread::for_each_mut(rt, askers, threads, &|_, asker| asker.ask_once());
@@ -150,8 +152,10 @@ fn seat<'a, D: Disk + Drop, C: Clock + Drop, R: Wait>(
     requires own { IsPassOf turns.now pass }
     requires share { 1 < (view pass).share }
     ensures seated { result.1 ≡ None → (one : _) × (two : _) × (result.0.items ≡ one ∷ two ∷ [])
-        × (one.seated ≡ record { turns = turns_id turns.now; pass = left (view pass) }) × (one.ask.now ≡ make.now)
-        × (two.seated ≡ record { turns = turns_id turns.now; pass = right (view pass) }) × (two.ask.now ≡ show.now) }
+        × (one.seated ≡ record { turns = turns_id turns.now; gate = gate.now; worker = 1; pass = left (view pass) })
+        × (one.ask.now ≡ make.now)
+        × (two.seated ≡ record { turns = turns_id turns.now; gate = gate.now; worker = 2; pass = right (view pass) })
+        × (two.ask.now ≡ show.now) }
     ensures back { IfSome result.1 (λ p. p ≡ pass) }
 {
     let mut askers = Vec::new(alloc);

@@ -32,7 +32,7 @@ returns-in-Serve-clause-sound g c tells sound =
     let w = g.W.Replies in (
       c.serve.ensures.sound tells sound,
       starts_sound d k w tells (c.serve.new.port ≡ c.args.port.now) (λ first. AnswersWorkers d k w
-          (Connects g.P.Port c.as_str.result.now c.in-Serve.workers c.in-Serve.connections c.args.port.now c.serve.new.port))
+          (Connects g.P.Port (g.G.Gate.let_through c.args.gate.now) c.as_str.result.now c.in-Serve.workers c.in-Serve.connections c.args.port.now c.serve.new.port))
           (λ first old new status sound a. calls_sound d k w tells journal_limit (under old) (under new) (log_calls a.log) sound a.answers)
           (around c.args.disk c.args.clock c.args.out.now) (around c.serve.result.disk c.serve.result.clock c.serve.new.out)
           c.serve.result.status sound (c.sound_now.ensures.still tells sound) c.serve.ensures.serves,
@@ -42,7 +42,7 @@ returns-in-Serve-clause-sound g c tells sound =
 
 pub returns-in-Serve-clause-survives : goal.returns-in-Serve-clause-survives
 returns-in-Serve-clause-survives g c honest sound =
-    let all = parts g.S.Source g.D.Disk g.C.Clock g.W.Replies g.P.Port g.K.BillKeeper in
+    let all = parts g.S.Source g.D.Disk g.C.Clock g.W.Replies g.P.Port (g.G.Gate.let_through c.args.gate.now) g.K.BillKeeper in
     let has = c.sound_now.ensures.reads honest sound in
     let old = world c.args.disk c.args.clock c.args.out.now c.args.input.now c.args.port.now c.args.keeper.now in
     let new = world c.serve.result.disk c.serve.result.clock c.serve.new.out c.args.input.now c.serve.new.port c.args.keeper.now in
@@ -65,7 +65,7 @@ returns-in-Err-clause-survives g c honest sound = inl (record {
 
 pub returns-in_default-clause-survives : goal.returns-in_default-clause-survives
 returns-in_default-clause-survives g c honest sound =
-    let all = parts g.S.Source g.D.Disk g.C.Clock g.W.Replies g.P.Port g.K.BillKeeper in
+    let all = parts g.S.Source g.D.Disk g.C.Clock g.W.Replies g.P.Port (g.G.Gate.let_through c.args.gate.now) g.K.BillKeeper in
     let has = c.sound_now.ensures.reads honest sound in
     let line = line_of c.in-Ok.command in
     let old = world c.args.disk c.args.clock c.args.out.now c.args.input.now c.args.port.now c.args.keeper.now in
@@ -80,7 +80,7 @@ returns-in_default-clause-survives g c honest sound =
 
 pub returns-in-Serve-clause-does : goal.returns-in-Serve-clause-does
 returns-in-Serve-clause-does g c =
-    let all = parts g.S.Source g.D.Disk g.C.Clock g.W.Replies g.P.Port g.K.BillKeeper in
+    let all = parts g.S.Source g.D.Disk g.C.Clock g.W.Replies g.P.Port (g.G.Gate.let_through c.args.gate.now) g.K.BillKeeper in
     let old = world c.args.disk c.args.clock c.args.out.now c.args.input.now c.args.port.now c.args.keeper.now in
     let new = world c.serve.result.disk c.serve.result.clock c.serve.new.out c.args.input.now c.serve.new.port c.args.keeper.now in
     subst (λ (l : Option Line). Obeys all l old new c.serve.result.status)
@@ -174,14 +174,14 @@ carry_out-requires-clause-no_port g c κs within = needs_no_port c.in-Ok.command
 pub returns-in-Err-clause-does : goal.returns-in-Err-clause-does
 returns-in-Err-clause-does g c =
     let r = c.refuse_line-status in
-    refusal_obeys (parts g.S.Source g.D.Disk g.C.Clock g.W.Replies g.P.Port g.K.BillKeeper)
+    refusal_obeys (parts g.S.Source g.D.Disk g.C.Clock g.W.Replies g.P.Port (g.G.Gate.let_through c.args.gate.now) g.K.BillKeeper)
     (world c.args.disk c.args.clock c.args.out.now c.args.input.now c.args.port.now c.args.keeper.now)
     (world c.args.disk c.args.clock r.new.out c.args.input.now c.args.port.now c.args.keeper.now)
     r.result c.in-Err.fault _ (λ is. c.in-Err.ensures.refused (ap Err is)) r.ensures.usage r.ensures.memory r.ensures.silent refl
 
 pub returns-in_default-clause-does : goal.returns-in_default-clause-does
 returns-in_default-clause-does g c =
-    let all = parts g.S.Source g.D.Disk g.C.Clock g.W.Replies g.P.Port g.K.BillKeeper in
+    let all = parts g.S.Source g.D.Disk g.C.Clock g.W.Replies g.P.Port (g.G.Gate.let_through c.args.gate.now) g.K.BillKeeper in
     let line = line_of c.in-Ok.command in
     let old = world c.args.disk c.args.clock c.args.out.now c.args.input.now c.args.port.now c.args.keeper.now in
     let new = world c.carry_out.result.disk c.carry_out.result.clock c.carry_out.new.out c.carry_out.new.input c.args.port.now c.carry_out.new.keeper in

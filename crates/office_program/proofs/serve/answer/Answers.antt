@@ -51,7 +51,7 @@ returns-clause-answers g c disk clock opens =
         numbers = subst (λ (x : g.row.C.Denot). k.count x < 2 ^ 64 - 1 → (list : List ℕ) × AreNumbers calls list × Appends (k.told clock) (k.told x) list) (sym ended.clock) answers.numbers;
       };
       end = closed.end;
-      connections = record { listens = c.serve_office-closed.ensures.listens; counts = c.serve_office-closed.ensures.counts; divided = served.2 };
+      connections = record { listens = c.serve_office-closed.ensures.listens; counts = c.serve_office-closed.ensures.counts; shifts = c.serve_office-closed.ensures.shifts; divided = served.2 };
       silent = ended.silent;
       status_is = ends;
       note = subst (λ (t : List ℕ). IsNoted w c.args.out.now c.close.new.out t) line ended.noted;

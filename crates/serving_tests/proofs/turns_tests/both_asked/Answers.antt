@@ -9,6 +9,7 @@ use Rattle.desk_core.specs.declared.fault.DeskFault.{DeskFault}
 use Rattle.serving.specs.Askers.{AsksOnce}
 use Rattle.serving.specs.Seats.{Seat, DeskPass}
 use Rattle.serving_tests.specs.declared.turns_tests.Asker.{Asker}
+use Rattle.serving_tests.specs.declared.turns_tests.HoldingGate.{HoldingGate}
 use Rattle.serving.proofs.TwoCalls.{either_way, called_so, each_took}
 use Rattle.serving_tests.proofs.turns_tests.both_asked.Given as given
 use Rattle.serving_tests.proofs.turns_tests.both_asked.Goals as goal
@@ -17,7 +18,7 @@ abbrev One : given.Over → Type 0
 One g = Asker g.row.D.Denot g.row.C.Denot g.row.R.Denot
 
 abbrev Place : given.Over → Type 0
-Place g = Seat g.row.D.Denot g.row.C.Denot
+Place g = Seat g.row.D.Denot g.row.C.Denot HoldingGate
 
 abbrev Known : given.Over → Type 0
 Known g = DeskPass g.row.D.Denot g.row.C.Denot
@@ -25,7 +26,7 @@ Known g = DeskPass g.row.D.Denot g.row.C.Denot
 abbrev Took : (g : given.Over) → One g → One g → Type 0
 Took g old new =
     let d = g.D.Disk in
-    AsksOnce (LegalSince d) old.seated old.ask.now new.said new.seated
+    AsksOnce (λ gate worker call. Unit {0}) (LegalSince d) old.seated old.ask.now new.said new.seated
 
 pub leave-pass-requires : goal.leave-pass-requires
 leave-pass-requires g c =
