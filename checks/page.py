@@ -15,7 +15,7 @@ CASE_WIDTH = 56  # so long is the name of a case in the page at most
 INTRODUCTION = """\
 # What each public call answers
 
-For verification engineers who ask which answers a call has and what the contract says of each, and for contributors who add a call or an answer. You
+For verification researchers who ask which answers a call has and what the contract says of each, and for contributors who add a call or an answer. You
 need to know how to read a clause ([PROOFS](PROOFS.md)).
 
 Each public function returns, for any bytes, numbers and faults; that is part of its proof. The tables have every answer of a public call other than
