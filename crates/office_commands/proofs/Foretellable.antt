@@ -121,8 +121,8 @@ module _ (status : ℕ) where
           after_done w old.out new.out three four history asked bytes first can input left
           (subst (λ (h : List Entry). ForecastsAfter w h asked input first old.out new.out status) same known.2)
 
-      pub forecast_done : {left_alone : Type 0} (old new : Surroundings D C W) → CanForecast history asked bytes (k.last new.clock) → IsSound (d.state old.disk)
-          → HasAcceptedHistory history (d.state old.disk).journal.seen → Forecasts d k w left_alone asked input old new status → Foretold
+      pub forecast_done : {X : Type 0} {part_old part_new : X} (old new : Surroundings D C W) → CanForecast history asked bytes (k.last new.clock) → IsSound (d.state old.disk)
+          → HasAcceptedHistory history (d.state old.disk).journal.seen → Forecasts d k w part_old part_new asked input old new status → Foretold
       forecast_done old new can sound has starts =
           ⊎_elim
           (λ does. ⊎_elim

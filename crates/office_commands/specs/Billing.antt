@@ -145,7 +145,7 @@ module _ {D C W K : Type 0} (d : disks.Ghosts D) (w : sinks.Ghosts W) (b : keepe
 module _ {D C W K : Type 0} (d : disks.Ghosts D) (k : clocks.Ghosts C) (w : sinks.Ghosts W) (b : keepers.Ghosts K) where
   -- what `bill` does; if the journal is not opened or the clock is at its end, the keeper is unchanged
   abbrev pub Bills : Billing K → Surroundings D C W → Surroundings D C W → ℕ → Type 0
-  Bills one = Starts d k w (LeavesKeeper one) (BillsMonth d w b one)
+  Bills one = Starts d k w one.old one.new (BillsMonth d w b one)
 
 -- ---- a month that can be billed
 

@@ -145,8 +145,9 @@ module _ {D C W : Type 0} (d : disks.Ghosts D) (w : sinks.Ghosts W) where
 
 module _ {D C W : Type 0} (d : disks.Ghosts D) (k : clocks.Ghosts C) (w : sinks.Ghosts W) where
   -- what `forecast` does with an input; if the journal is not opened or the clock is at its end, the input is not read
-  abbrev pub Forecasts : Type 0 → ForecastAsked → StreamEnds → Surroundings D C W → Surroundings D C W → ℕ → Type 0
-  Forecasts left_alone asked input = Starts d k w left_alone (ForecastsBucket d w asked input)
+  abbrev pub Forecasts : {S : Type 0} → S → S → ForecastAsked → StreamEnds → Surroundings D C W → Surroundings D C W
+      → ℕ → Type 0
+  Forecasts input_old input_new asked input = Starts d k w input_old input_new (ForecastsBucket d w asked input)
 
 -- ---- what can be forecast
 

@@ -60,6 +60,7 @@ module _ {D C W : Type 0} (d : disks.Ghosts D) (w : sinks.Ghosts W) where
       pub told : TellsReport w as_text reply old.out new.out status ⊎ RunsOut w old.out new.out status
 
 module _ {D C W : Type 0} (d : disks.Ghosts D) (k : clocks.Ghosts C) (w : sinks.Ghosts W) where
-  -- what `report` does; if the journal is not opened or the clock is at its end, nothing is printed
+  -- what `report` does; if the journal is not opened or the clock is at its end, nothing is printed; no part but its
+  -- surroundings could change
   abbrev pub Reports : ℕ → Bool → Surroundings D C W → Surroundings D C W → ℕ → Type 0
-  Reports month as_text = Starts d k w (Unit {0}) (TellsMonth d w month as_text)
+  Reports month as_text = Starts d k w month month (TellsMonth d w month as_text)

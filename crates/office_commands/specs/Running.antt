@@ -131,8 +131,10 @@ module _ {D C W : Type 0} (d : disks.Ghosts D) (k : clocks.Ghosts C) (w : sinks.
     pub note : IsNoted w old.out new.out clock_note
 
   -- The clock gives one number before the disk is touched. If it is below the end of time, the office is opened and
-  -- answers, or it is not opened. If it is not opened, or the clock is at its end, the source of the asks is unchanged.
-  pub record Starts (left_alone : Type 0) (answers : ℕ → Surroundings D C W → Surroundings D C W → ℕ → Type 0)
+  -- answers, or it is not opened. If it is not opened, or the clock is at its end, this part of the program, given before
+  -- and after, is unchanged.
+  pub record Starts {X : Type 0} (part_old part_new : X)
+      (answers : ℕ → Surroundings D C W → Surroundings D C W → ℕ → Type 0)
       (old new : Surroundings D C W) (status : ℕ) : Type 0 where
     pub first : ℕ
     pub clock : C
@@ -140,9 +142,9 @@ module _ {D C W : Type 0} (d : disks.Ghosts D) (k : clocks.Ghosts C) (w : sinks.
     pub is_last : k.last clock ≡ first
     pub told_first : k.count clock < 2 ^ 64 - 1 → Appends (k.told old.clock) (k.told clock) (first ∷ [])
     pub does : ((first < end_of_time) × (answers first (around old.disk clock old.out) new status
-        ⊎ (FailsToOpen (around old.disk clock old.out) new status × left_alone)))
-        ⊎ ((end_of_time ≤ first) × Ends (around old.disk clock old.out) new status × left_alone)
+        ⊎ (FailsToOpen (around old.disk clock old.out) new status × (part_new ≡ part_old))))
+        ⊎ ((end_of_time ≤ first) × Ends (around old.disk clock old.out) new status × (part_new ≡ part_old))
 
   -- what `run` does with the messages of a stream; it reads none if the office is not opened
-  abbrev pub Runs : Type 0 → StreamEnds → Surroundings D C W → Surroundings D C W → ℕ → Type 0
-  Runs left_alone read = Starts left_alone (λ first. AnswersStream read)
+  abbrev pub Runs : {S : Type 0} → S → S → StreamEnds → Surroundings D C W → Surroundings D C W → ℕ → Type 0
+  Runs input_old input_new read = Starts input_old input_new (λ first. AnswersStream read)

@@ -292,7 +292,7 @@ pub fn foretell<S: Source, W: Replies, D: Disk + Drop, C: Clock + Drop>(
     mut clock: C,
     asked: &ForecastAsked,
 ) -> End<D, C>
-    ensures forecasts { Forecasts D.Disk C.Clock W.Replies (input.new ≡ input.old) asked.now
+    ensures forecasts { Forecasts D.Disk C.Clock W.Replies input.old input.new asked.now
         (stream_ends (S.left input.old) (S.left input.new))
         (around disk clock out.old) (around result.disk result.clock out.new) result.status }
     ensures sound { IsTrue D.honest → IsSound (D.state disk) → result.status ≡ 5 → ⊥ }

@@ -189,7 +189,7 @@ pub fn run<S: Source, W: Replies, D: Disk + Drop, C: Clock + Drop>(
     disk: D,
     mut clock: C,
 ) -> End<D, C>
-    ensures runs { Runs D.Disk C.Clock W.Replies (input.new ≡ input.old)
+    ensures runs { Runs D.Disk C.Clock W.Replies input.old input.new
         (stream_ends (S.left input.old) (S.left input.new)) (around disk clock out.old)
         (around result.disk result.clock out.new) result.status }
     ensures sound { IsTrue D.honest → IsSound (D.state disk) → result.status ≡ 5 → ⊥ }

@@ -66,10 +66,10 @@ module _ {D C W : Type 0} (d : disks.Ghosts D) (k : clocks.Ghosts C) (w : sinks.
       weakened IsSound (failed.refused.any_moment tells) (λ s narrow. narrower_sound (d.state old.disk) s sound narrow)
 
   -- also where nothing is touched
-  pub starts_sound : (left_alone : Type 0) (answers : ℕ → Surroundings D C W → Surroundings D C W → ℕ → Type 0)
+  pub starts_sound : {X : Type 0} (part_old part_new : X) (answers : ℕ → Surroundings D C W → Surroundings D C W → ℕ → Type 0)
       → ((first : ℕ) (old new : Surroundings D C W) (status : ℕ) → IsSound (d.state old.disk) → answers first old new status → StaysSound old.disk new.disk)
-      → (old new : Surroundings D C W) (status : ℕ) → IsSound (d.state old.disk) → StaysSound old.disk old.disk → Starts d k w left_alone answers old new status → StaysSound old.disk new.disk
-  starts_sound left_alone answers keeps old new status sound still starts =
+      → (old new : Surroundings D C W) (status : ℕ) → IsSound (d.state old.disk) → StaysSound old.disk old.disk → Starts d k w part_old part_new answers old new status → StaysSound old.disk new.disk
+  starts_sound part_old part_new answers keeps old new status sound still starts =
       let first : Surroundings D C W = record { disk = old.disk; clock = starts.clock; out = old.out } in
       ⊎_elim
       (λ does. ⊎_elim

@@ -60,11 +60,11 @@ module _ {S D C W P Source Replies K : Type 0} (g : Parts S D C W P Source Repli
       }
 
   -- a command that asks the clock first
-  starts_survives : (left_alone : Type 0) (answers : ℕ → Surroundings D C W → Surroundings D C W → ℕ → Type 0)
-      (line : Option Line) (old new : World S D C W P K) (status : ℕ) → (left_alone → new.port ≡ old.port)
+  starts_survives : {X : Type 0} (part_old part_new : X) (answers : ℕ → Surroundings D C W → Surroundings D C W → ℕ → Type 0)
+      (line : Option Line) (old new : World S D C W P K) (status : ℕ) → (part_new ≡ part_old → new.port ≡ old.port)
       → ((first : ℕ) (clock : C) → answers first (around old.disk clock old.out) (place_of new) status → Saves line old new)
-      → Stays old.disk old.disk → Starts g.disk g.clock g.out left_alone answers (place_of old) (place_of new) status → Saves line old new
-  starts_survives left_alone answers line old new status alone saves still starts =
+      → Stays old.disk old.disk → Starts g.disk g.clock g.out part_old part_new answers (place_of old) (place_of new) status → Saves line old new
+  starts_survives part_old part_new answers line old new status alone saves still starts =
       ⊎_elim
       (λ does. ⊎_elim
       (λ answered. saves starts.first starts.clock answered)
@@ -89,14 +89,14 @@ module _ {S D C W P Source Replies K : Type 0} (g : Parts S D C W P Source Repli
     unused = port (λ listen workers connections is. absurd cc);
   })
   does_survive run old new status sound history has still unsaid port does =
-      starts_survives (new.input ≡ old.input)
+      starts_survives old.input new.input
       (λ first. AnswersStream g.disk g.clock g.out (stream_ends (g.input.left old.input) (g.input.left new.input)))
       (Some run) old new status (λ _. port (λ listen workers connections is. absurd cc))
       (λ first clock a. inr (answers_safely (Some run) old new clock (calls_of a.talk.spoken.exchanges)
       (record { end = a.end; talk = a.talk; asked = refl; said = a.said_all; stamped = a.stamped }) sound a.answers))
       still does
   does_survive (serve listen workers connections) old new status sound history has still unsaid port does =
-      starts_survives (new.port ≡ old.port)
+      starts_survives old.port new.port
       (λ first. AnswersWorkers g.disk g.clock g.out (Connects g.port listen workers connections old.port new.port))
       (Some (serve listen workers connections)) old new status (λ same. same)
       (λ first clock a. inr (answers_safely (Some (serve listen workers connections)) old new clock (log_calls a.log)
@@ -104,7 +104,7 @@ module _ {S D C W P Source Replies K : Type 0} (g : Parts S D C W P Source Repli
       still does
   does_survive (report month as_text) old new status sound history has still unsaid port does =
       let same = port (λ listen workers connections is. absurd cc) in
-      starts_survives (Unit {0}) (TellsMonth g.disk g.out month as_text) (Some (report month as_text)) old new status (λ _. same)
+      starts_survives month month (TellsMonth g.disk g.out month as_text) (Some (report month as_text)) old new status (λ _. same)
       (λ first clock told. inl (record { kept = told.any_moment honest; unsaid = (unsaid (λ is. absurd cc) (λ listen workers connections is. absurd cc)).0; unused = same })) still does
   does_survive (explain workers) old new status sound history has still unsaid port (inl told) = inl (record {
     kept = told.any_moment honest;
@@ -123,12 +123,12 @@ module _ {S D C W P Source Replies K : Type 0} (g : Parts S D C W P Source Repli
   })
   does_survive (bill month) old new status sound history has still unsaid port does =
       let same = port (λ listen workers connections is. absurd cc) in
-      starts_survives (new.keeper ≡ old.keeper) (BillsMonth g.disk g.out g.keeper (billing month old.keeper new.keeper)) (Some (bill month))
+      starts_survives old.keeper new.keeper (BillsMonth g.disk g.out g.keeper (billing month old.keeper new.keeper)) (Some (bill month))
       old new status (λ _. same)
       (λ first clock told. inl (record { kept = told.any_moment honest; unsaid = (unsaid (λ is. absurd cc) (λ listen workers connections is. absurd cc)).0; unused = same })) still does
   does_survive (forecast bucket day) old new status sound history has still unsaid port does =
       let same = port (λ listen workers connections is. absurd cc) in
-      starts_survives (new.input ≡ old.input)
+      starts_survives old.input new.input
       (ForecastsBucket g.disk g.out (asking bucket day) (stream_ends (g.input.left old.input) (g.input.left new.input)))
       (Some (forecast bucket day)) old new status (λ _. same)
       (λ first clock told. inl (record { kept = told.any_moment honest; unsaid = (unsaid (λ is. absurd cc) (λ listen workers connections is. absurd cc)).0; unused = same })) still does

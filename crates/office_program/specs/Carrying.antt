@@ -59,13 +59,13 @@ module _ {S D C W K : Type 0} (s : sources.Ghosts S) (d : disks.Ghosts D) (k : c
   abbrev pub CarriesOut : Line → Setting S D C W K → Setting S D C W K → ℕ → Type 0
   CarriesOut init old new status = InitsAlone d w old.place new.place status
   CarriesOut run old new status =
-      Runs d k w (new.input ≡ old.input) (input_ends old new) old.place new.place status
+      Runs d k w old.input new.input (input_ends old new) old.place new.place status
   CarriesOut (serve listen workers connections) old new status = ⊥
   CarriesOut (report month as_text) old new status = Reports d k w month as_text old.place new.place status
   CarriesOut (explain workers) old new status = Explains d k w old.place new.place status
   CarriesOut (gen number count) old new status = Loads w number count old.place new.place status
   CarriesOut (bill month) old new status = Bills d k w b (billed month old new) old.place new.place status
-  CarriesOut (forecast bucket day) old new status = Forecasts d k w (new.input ≡ old.input) (asking bucket day)
+  CarriesOut (forecast bucket day) old new status = Forecasts d k w old.input new.input (asking bucket day)
       (input_ends old new) old.place new.place status
 
   -- it is done if nothing outside fails and the clock is not at its end; the disk is sound, or the line is `init` and

@@ -23,7 +23,7 @@ TouchesOutput old new = new ≡ record old { out = new.out }
 module _ {S D C W P Source Replies K : Type 0} (g : Parts S D C W P Source Replies K) where
   -- what each command line does
   abbrev pub Does : Line → World S D C W P K → World S D C W P K → ℕ → Type 0
-  Does (serve listen workers connections) old new status = ServesPort g.disk g.clock g.out (new.port ≡ old.port)
+  Does (serve listen workers connections) old new status = ServesPort g.disk g.clock g.out old.port new.port
       (Connects g.port listen workers connections old.port new.port) (place_of old) (place_of new) status
   Does line old new status =
       CarriesOut g.input g.disk g.clock g.out g.keeper line (setting_of old) (setting_of new) status

@@ -64,8 +64,9 @@ module _ {D C W : Type 0} (d : disks.Ghosts D) (k : clocks.Ghosts C) (w : sinks.
         (store_after (stale_by false (log_calls log)) answers.calls_are.saved))
 
   -- what `serve` does with the connections of a port; it leaves the port unchanged if the office is not opened
-  abbrev pub ServesPort : Type 0 → (WorkerEnd → Log → Type 0) → Surroundings D C W → Surroundings D C W → ℕ → Type 0
-  ServesPort left_alone connected = Starts d k w left_alone (λ first. AnswersWorkers connected)
+  abbrev pub ServesPort : {P : Type 0} → P → P → (WorkerEnd → Log → Type 0) → Surroundings D C W → Surroundings D C W
+      → ℕ → Type 0
+  ServesPort port_old port_new connected = Starts d k w port_old port_new (λ first. AnswersWorkers connected)
 
 module _ {P Source Replies : Type 0} (p : ports.Ghosts P Source Replies) where
   -- If the port had given no connection before, it and the workers' ports listen at the address, or it gave none. It

@@ -179,7 +179,7 @@ where
     P::Replies: Send,
     requires few { (0 < workers) × (workers ≤ 64) }
 
-    ensures serves { ServesPort D.Disk C.Clock W.Replies (port.new ≡ port.old)
+    ensures serves { ServesPort D.Disk C.Clock W.Replies port.old port.new
         (Connects P.Port address.now workers connections port.old port.new)
         (around disk clock out.old) (around result.disk result.clock out.new) result.status }
     ensures sound { IsTrue D.honest → IsSound (D.state disk) → result.status ≡ 5 → ⊥ }

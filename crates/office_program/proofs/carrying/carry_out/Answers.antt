@@ -3,7 +3,7 @@ use Rattle.command_line.specs.Lines.{line_of}
 use Rattle.command_line.specs.declared.line.CommandLine.{CommandLine}
 use Rattle.http_front.specs.Counts.{stream_ends}
 use Rattle.http_front.specs.Exchanges.{calls_of}
-use Rattle.office_commands.specs.Billing.{billing, LeavesKeeper, BillsMonth, CanBill}
+use Rattle.office_commands.specs.Billing.{billing, BillsMonth, CanBill}
 use Rattle.office_commands.specs.Forecasting.{asking, ForecastsBucket, CanForecast}
 use Rattle.office_commands.specs.Reporting.{TellsMonth}
 use Rattle.office_commands.specs.Running.{around, under, journal_limit, AnswersStream}
@@ -41,7 +41,7 @@ returns-in-Run-clause-sound g c tells sound =
     let k = g.C.Clock in
     let w = g.W.Replies in (
       c.run.ensures.sound tells sound,
-      starts_sound d k w tells (c.run.new.input ≡ c.args.input.now)
+      starts_sound d k w tells c.args.input.now c.run.new.input
           (λ first. AnswersStream d k w (stream_ends (g.S.Source.left c.args.input.now) (g.S.Source.left c.run.new.input)))
           (λ first old new status sound a. calls_sound d k w tells journal_limit (under old) (under new) (calls_of a.talk.spoken.exchanges) sound a.answers)
           (around c.args.disk c.args.clock c.args.out.now) (around c.run.result.disk c.run.result.clock c.run.new.out) c.run.result.status sound
@@ -65,7 +65,7 @@ returns-in-Report-clause-sound g c tells sound =
     let month = c.in-Report.asked.month in
     let as_text = c.in-Report.asked.as_text in (
       c.report.ensures.sound tells sound,
-      starts_sound d k w tells (Unit {0}) (TellsMonth d w month as_text) (reported_sound d k w tells month as_text)
+      starts_sound d k w tells month month (TellsMonth d w month as_text) (reported_sound d k w tells month as_text)
           (around c.args.disk c.args.clock c.args.out.now)
           (around c.report.result.disk c.report.result.clock c.report.new.out) c.report.result.status sound
           (c.sound_now.ensures.still tells sound) c.report.ensures.reports,
@@ -265,7 +265,7 @@ returns-in-Bill-clause-sound g c tells sound =
     let b = g.K.BillKeeper in
     let one = billing c.in-Bill.asked.month c.args.keeper.now c.bill.new.keeper in (
       c.bill.ensures.sound tells sound,
-      starts_sound d k w tells (LeavesKeeper one) (BillsMonth d w b one) (billed_sound d k w tells b one)
+      starts_sound d k w tells one.old one.new (BillsMonth d w b one) (billed_sound d k w tells b one)
           (around c.args.disk c.args.clock c.args.out.now)
           (around c.bill.result.disk c.bill.result.clock c.bill.new.out) c.bill.result.status sound
           (c.sound_now.ensures.still tells sound) c.bill.ensures.bills,
@@ -339,7 +339,7 @@ returns-in-Forecast-clause-sound g c tells sound =
     let asked = asking c.in-Forecast.asked.bucket c.in-Forecast.asked.day in
     let input = stream_ends (g.S.Source.left c.args.input.now) (g.S.Source.left c.foretell.new.input) in (
       c.foretell.ensures.sound tells sound,
-      starts_sound d k w tells (c.foretell.new.input ≡ c.args.input.now) (ForecastsBucket d w asked input) (foretold_sound d k w tells asked input)
+      starts_sound d k w tells c.args.input.now c.foretell.new.input (ForecastsBucket d w asked input) (foretold_sound d k w tells asked input)
           (around c.args.disk c.args.clock c.args.out.now)
           (around c.foretell.result.disk c.foretell.result.clock c.foretell.new.out) c.foretell.result.status sound
           (c.sound_now.ensures.still tells sound) c.foretell.ensures.forecasts,

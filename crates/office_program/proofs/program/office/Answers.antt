@@ -31,7 +31,7 @@ returns-in-Serve-clause-sound g c tells sound =
     let k = g.C.Clock in
     let w = g.W.Replies in (
       c.serve.ensures.sound tells sound,
-      starts_sound d k w tells (c.serve.new.port ≡ c.args.port.now) (λ first. AnswersWorkers d k w
+      starts_sound d k w tells c.args.port.now c.serve.new.port (λ first. AnswersWorkers d k w
           (Connects g.P.Port c.as_str.result.now c.in-Serve.workers c.in-Serve.connections c.args.port.now c.serve.new.port))
           (λ first old new status sound a. calls_sound d k w tells journal_limit (under old) (under new) (log_calls a.log) sound a.answers)
           (around c.args.disk c.args.clock c.args.out.now) (around c.serve.result.disk c.serve.result.clock c.serve.new.out)
