@@ -32,8 +32,8 @@ module _ {D W : Type 0} (d : disks.Ghosts D) (w : sinks.Ghosts W) where
     pub quiet : d.fault_count new ≡ d.fault_count old
     pub told : IsPutOut w (made_line made) out_old out_new status
 
-  -- The journal is not made, and nothing was printed. A store fault is reported only if the disk failed; with any other
-  -- fault nothing was written.
+  -- The journal is not made, and nothing was printed. With any fault but a store fault, the disk did not fail and nothing
+  -- was written.
   pub record FailsToMake (old new : D) (out_old out_new : W) (status : ℕ) : Type 0 where
     pub fault : OpenFault
     pub why : IsTrue d.honest → CreateFails fault (d.state old).journal.seen

@@ -106,7 +106,7 @@ module _ {D C W : Type 0} (d : disks.Ghosts D) (k : clocks.Ghosts C) (w : sinks.
   -- ---- run and serve
 
   -- The command ends with this fault: nothing was said or written, the clock gave no further number, and each image
-  -- existed before. A store fault is reported only if the disk failed.
+  -- existed before. With any fault but a store fault, the disk did not fail.
   pub record IsRefused (fault : OpenFault) (old new : Surroundings D C W) (status : ℕ) : Type 0 where
     pub quiet : (fault ≡ StoreFault → ⊥) → d.fault_count new.disk ≡ d.fault_count old.disk
     pub writes : WritesNothing d old.disk new.disk

@@ -31,7 +31,7 @@ module _ {S D C W P Source Replies K : Type 0} (g : Parts S D C W P Source Repli
   Stays old new = KeepsTo g.disk old new (Narrower (g.disk.state old))
 
   abbrev Saves : Option Line → World S D C W P K → World S D C W P K → Type 0
-  Saves line old new = AnswersNothing g old new ⊎ AnswersSafely g line old new
+  Saves line old new = AnswersNothing g line old new ⊎ AnswersSafely g line old new
 
   abbrev IsNoServe : Line → Type 0
   IsNoServe line = (listen : List ℕ) (workers connections : ℕ) → line ≡ serve listen workers connections → ⊥
@@ -49,33 +49,41 @@ module _ {S D C W P Source Replies K : Type 0} (g : Parts S D C W P Source Repli
       let legally = answers.sound honest sound in record {
         calls = calls;
         are_asked = asked;
+        clock = clock;
+        made = answers.calls_are;
         opened = legally.opened;
+        limit_is = legally.limit_is;
+        faults = legally.faults;
         read = legally.disk.read;
         history = legally.history;
         legal = legally.legal;
         opening = legally.disk.opening;
         begun = legally.disk.begun;
         before = legally.disk.before;
+        since = legally.disk.since;
+        told = legally.disk.serves.told;
         recovers = legally.disk.serves.left;
       }
 
   -- a command that asks the clock first
   starts_survives : {X : Type 0} (part_old part_new : X) (answers : ℕ → Surroundings D C W → Surroundings D C W → ℕ → Type 0)
-      (line : Option Line) (old new : World S D C W P K) (status : ℕ) → (part_new ≡ part_old → new.port ≡ old.port)
+      (line : Option Line) (old new : World S D C W P K) (status : ℕ) → (part_new ≡ part_old → line ≡ Some run → new.input ≡ old.input) → (part_new ≡ part_old → new.port ≡ old.port)
       → ((first : ℕ) (clock : C) → answers first (around old.disk clock old.out) (place_of new) status → Saves line old new)
       → Stays old.disk old.disk → Starts g.disk g.clock g.out part_old part_new answers (place_of old) (place_of new) status → Saves line old new
-  starts_survives part_old part_new answers line old new status alone saves still starts =
+  starts_survives part_old part_new answers line old new status unread alone saves still starts =
       ⊎_elim
       (λ does. ⊎_elim
       (λ answered. saves starts.first starts.clock answered)
       (λ refused. inl (record {
         kept = refused.0.refused.any_moment honest;
         unsaid = refused.0.refused.silent.0;
+        unread = unread refused.1;
         unused = alone refused.1;
       })) does.1)
       (λ ends. inl (record {
         kept = subst (λ (disk : D). Stays old.disk disk) (sym ends.1.untouched) still;
         unsaid = ends.1.silent.0;
+        unread = unread ends.2;
         unused = alone ends.2;
       })) starts.does
 
@@ -86,52 +94,56 @@ module _ {S D C W P Source Replies K : Type 0} (g : Parts S D C W P Source Repli
   does_survive init old new status sound history has still unsaid port does = inl (record {
     kept = does.0.unchanged honest (not_none (g.disk.state old.disk).journal.seen history has);
     unsaid = (unsaid (λ is. absurd cc) (λ listen workers connections is. absurd cc)).0;
+    unread = λ is. absurd cc;
     unused = port (λ listen workers connections is. absurd cc);
   })
   does_survive run old new status sound history has still unsaid port does =
       starts_survives old.input new.input
       (λ first. AnswersStream g.disk g.clock g.out (stream_ends (g.input.left old.input) (g.input.left new.input)))
-      (Some run) old new status (λ _. port (λ listen workers connections is. absurd cc))
+      (Some run) old new status (λ same _. same) (λ _. port (λ listen workers connections is. absurd cc))
       (λ first clock a. inr (answers_safely (Some run) old new clock (calls_of a.talk.spoken.exchanges)
       (record { end = a.end; talk = a.talk; asked = refl; said = a.said_all; stamped = a.stamped }) sound a.answers))
       still does
   does_survive (serve listen workers connections) old new status sound history has still unsaid port does =
       starts_survives old.port new.port
       (λ first. AnswersWorkers g.disk g.clock g.out (Connects g.port g.gate listen workers connections old.port new.port))
-      (Some (serve listen workers connections)) old new status (λ same. same)
+      (Some (serve listen workers connections)) old new status (λ _ is. absurd cc) (λ same. same)
       (λ first clock a. inr (answers_safely (Some (serve listen workers connections)) old new clock (log_calls a.log)
       (record { end = a.end; log = a.log; asked = refl; connects = a.connections }) sound a.answers))
       still does
   does_survive (report month as_text) old new status sound history has still unsaid port does =
       let same = port (λ listen workers connections is. absurd cc) in
-      starts_survives month month (TellsMonth g.disk g.out month as_text) (Some (report month as_text)) old new status (λ _. same)
-      (λ first clock told. inl (record { kept = told.any_moment honest; unsaid = (unsaid (λ is. absurd cc) (λ listen workers connections is. absurd cc)).0; unused = same })) still does
+      starts_survives month month (TellsMonth g.disk g.out month as_text) (Some (report month as_text)) old new status (λ _ is. absurd cc) (λ _. same)
+      (λ first clock told. inl (record { kept = told.any_moment honest; unsaid = (unsaid (λ is. absurd cc) (λ listen workers connections is. absurd cc)).0; unread = λ is. absurd cc; unused = same })) still does
   does_survive (explain workers) old new status sound history has still unsaid port (inl told) = inl (record {
     kept = told.any_moment honest;
     unsaid = (unsaid (λ is. absurd cc) (λ listen workers connections is. absurd cc)).0;
+    unread = λ is. absurd cc;
     unused = port (λ listen workers connections is. absurd cc);
   })
   does_survive (explain workers) old new status sound history has still unsaid port (inr failed) = inl (record {
     kept = failed.refused.any_moment honest;
     unsaid = (unsaid (λ is. absurd cc) (λ listen workers connections is. absurd cc)).0;
+    unread = λ is. absurd cc;
     unused = port (λ listen workers connections is. absurd cc);
   })
   does_survive (gen number count) old new status sound history has still unsaid port does = inl (record {
     kept = subst (λ (disk : D). Stays old.disk disk) (sym does.1) still;
     unsaid = (unsaid (λ is. absurd cc) (λ listen workers connections is. absurd cc)).0;
+    unread = λ is. absurd cc;
     unused = port (λ listen workers connections is. absurd cc);
   })
   does_survive (bill month) old new status sound history has still unsaid port does =
       let same = port (λ listen workers connections is. absurd cc) in
       starts_survives old.keeper new.keeper (BillsMonth g.disk g.out g.keeper (billing month old.keeper new.keeper)) (Some (bill month))
-      old new status (λ _. same)
-      (λ first clock told. inl (record { kept = told.any_moment honest; unsaid = (unsaid (λ is. absurd cc) (λ listen workers connections is. absurd cc)).0; unused = same })) still does
+      old new status (λ _ is. absurd cc) (λ _. same)
+      (λ first clock told. inl (record { kept = told.any_moment honest; unsaid = (unsaid (λ is. absurd cc) (λ listen workers connections is. absurd cc)).0; unread = λ is. absurd cc; unused = same })) still does
   does_survive (forecast bucket day) old new status sound history has still unsaid port does =
       let same = port (λ listen workers connections is. absurd cc) in
       starts_survives old.input new.input
       (ForecastsBucket g.disk g.out (asking bucket day) (stream_ends (g.input.left old.input) (g.input.left new.input)))
-      (Some (forecast bucket day)) old new status (λ _. same)
-      (λ first clock told. inl (record { kept = told.any_moment honest; unsaid = (unsaid (λ is. absurd cc) (λ listen workers connections is. absurd cc)).0; unused = same })) still does
+      (Some (forecast bucket day)) old new status (λ _ is. absurd cc) (λ _. same)
+      (λ first clock told. inl (record { kept = told.any_moment honest; unsaid = (unsaid (λ is. absurd cc) (λ listen workers connections is. absurd cc)).0; unread = λ is. absurd cc; unused = same })) still does
 
 module _ {S D C W P Source Replies K : Type 0} (g : Parts S D C W P Source Replies K) where
   -- what needs no port is done

@@ -56,7 +56,7 @@ module _ {S D C W P Source Replies K : Type 0} (g : Parts S D C W P Source Repli
       (IsTrue g.disk.honest → IsForeign (g.disk.state old.disk).journal.seen)
       (GaveBytes (g.input.left old.input) (g.input.left new.input) take_limit) status
 
-  -- a sound disk is opened, and stays sound at every moment
+  -- an honest and sound disk is never refused as not made, foreign or damaged, and it stays sound at every moment
   abbrev pub StaysSound : World S D C W P K → World S D C W P K → ℕ → Type 0
   StaysSound old new status = IsTrue g.disk.honest → IsSound (g.disk.state old.disk)
       → (status ≡ 5 → ⊥) × KeepsTo g.disk old.disk new.disk IsSound

@@ -6,15 +6,17 @@ use Rattle.disk_core.specs.Fronts.{Narrower}
 use Rattle.disk_core.specs.Moments.{KeepsTo}
 use Rattle.office_types.specs.declared.command.Entry.{Entry}
 use Rattle.command_line.specs.Lines.{Line, run, serve}
-use Rattle.desk_core.specs.Answers.{Call}
+use Rattle.desk_core.specs.Answers.{Answer, Call}
 use Rattle.desk_core.specs.Histories.{HasAcceptedHistory, IsSound}
-use Rattle.desk_core.specs.Serving.{Opened, LegalOn, Recovers}
+use Rattle.desk_core.specs.Runs.{MovesBy, outside}
+use Rattle.desk_core.specs.Serving.{Opened, IsAckedAt, LegalOn, Recoverable, Recovers}
 use Rattle.http_front.specs.Counts.{stream_ends}
 use Rattle.http_front.specs.Exchanges.{calls_of, moments_of}
 use Rattle.http_front.specs.Session.{Transcript}
 use Rattle.http_front.specs.declared.answering.SessionEnd.{SessionEnd}
 use Rattle.serving.specs.declared.worker.WorkerEnd.{WorkerEnd}
 use Rattle.serving.specs.Serving.{Log, log_calls}
+use Rattle.office_commands.specs.Running.{journal_limit}
 use Rattle.office_program.specs.Workers.{Connects}
 use Rattle.office_program.specs.Worlds.{World, Parts}
 
@@ -43,12 +45,17 @@ module _ {S D C W P Source Replies K : Type 0} (g : Parts S D C W P Source Repli
       AreOfPort listen workers connections old new calls
   AreAsked line old new calls = ⊥
 
-  -- The office answered these calls, and a crash at any moment loses none that was acknowledged.
+  -- An office was opened and answered these calls, and a crash at any moment loses none that was acknowledged.
   pub record AnswersSafely (line : Option Line) (old new : World S D C W P K) : Type 0 where
     pub calls : List Call
     pub are_asked : AreAsked line old new calls
+    -- one office was opened, made the calls in order, stamped each answer with the moment of the disk, and was closed
+    pub clock : C
+    pub made : MovesBy g.disk g.clock journal_limit (outside old.disk clock) (outside new.disk new.clock) calls
     -- it began from the history of what the disk read at the entry
     pub opened : Opened
+    pub limit_is : opened.limit ≡ journal_limit
+    pub faults : opened.faults ≡ g.disk.fault_count old.disk
     pub read : HasAcceptedHistory opened.history (g.disk.state old.disk).journal.seen
     -- the plain office allows the calls with their answers, and has this history after them
     pub history : List Entry
@@ -57,20 +64,24 @@ module _ {S D C W P Source Replies K : Type 0} (g : Parts S D C W P Source Repli
     pub opening : D
     pub begun : opened.moment ≡ g.disk.moment opening
     pub before : KeepsTo g.disk old.disk opening (Narrower (g.disk.state old.disk))
-    -- a crash at a later moment leaves the history after some number of the first calls, and each call that was
-    -- acknowledged by then is among them
+    -- from the opening on, each image has the history after some number of the first calls
+    pub since : KeepsTo g.disk opening new.disk (Recoverable opened calls)
+    -- and each call that was acknowledged by then is among them; no answer is stamped with a moment to come
+    pub told : (place : ℕ) (answer : Answer) → IsAckedAt calls place answer
+        → (opened.moment ≤ answer.disk_moment) × (answer.disk_moment ≤ g.disk.moment new.disk)
     pub recovers : (t : ℕ) (s : State) (image : List ℕ) → opened.moment ≤ t → t ≤ g.disk.moment new.disk
         → g.disk.had_since new.disk t s → IsImage s.journal image → Recovers opened calls t image
 
-  -- The office answered no call: no reply was said, the port was not used, and a crash at any moment leaves what it would
-  -- have left at the entry.
-  pub record AnswersNothing (old new : World S D C W P K) : Type 0 where
+  -- No call was answered: no reply was said, `run` read nothing, the port was not used, and a crash at any moment leaves
+  -- what it would have left at the entry.
+  pub record AnswersNothing (line : Option Line) (old new : World S D C W P K) : Type 0 where
     pub kept : KeepsTo g.disk old.disk new.disk (Narrower (g.disk.state old.disk))
     pub unsaid : g.out.said new.out ≡ g.out.said old.out
+    pub unread : line ≡ Some run → new.input ≡ old.input
     pub unused : new.port ≡ old.port
 
-  -- over a sound disk, the office answered no call, or it answered calls and a crash at any moment loses none that was
-  -- acknowledged
+  -- over an honest and sound disk, no call was answered, or an office answered calls and a crash at any moment loses none
+  -- that was acknowledged
   abbrev pub Survives : Option Line → World S D C W P K → World S D C W P K → Type 0
   Survives line old new = IsTrue g.disk.honest → IsSound (g.disk.state old.disk)
-      → AnswersNothing old new ⊎ AnswersSafely line old new
+      → AnswersNothing line old new ⊎ AnswersSafely line old new

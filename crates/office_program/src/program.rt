@@ -75,7 +75,8 @@ fn refuse_line<W: Replies>(out: &mut W, fault: LineFault) -> u8
 ///
 /// - 0 if all was done;
 /// - 1 if the words are not a command line;
-/// - 2 if the disk failed in a call of `init` or of the opening, or in a call after which no other ask was answered;
+/// - 2 if the disk failed in a call of `init` or of the opening, in a call after which no other ask was answered, or
+/// while the checkpoint was saved;
 /// - 3 if the input could not be read;
 /// - 4 if a text could not be written;
 /// - 5 if the journal is not made, foreign or damaged;
@@ -118,9 +119,9 @@ where
     K: BillKeeper,
     R: Threads + Wait + Sync,
 
-    // The claim. On a sound disk the office answered no call, and a crash at any moment leaves what it would have left
-    // at the entry; or it answered calls that the plain office allows, and a crash leaves the history after some number
-    // of the first calls, with each one that was acknowledged by then.
+    // The claim. On an honest and sound disk no call was answered, and a crash at any moment leaves what it would have
+    // left at the entry; or an office was opened and answered calls as the plain office allows, and a crash leaves the
+    // history after some number of the first calls, with each one that was acknowledged by then.
     ensures survives { Survives
         (parts S.Source D.Disk C.Clock W.Replies P.Port (G.let_through gate.now) K.BillKeeper) (asks words.now)
         (world disk clock out.old input.old port.old keeper.old)
@@ -146,8 +147,9 @@ where
         (world disk clock out.old input.old port.old keeper.old)
         (world result.disk result.clock out.new input.new port.new keeper.new) result.status }
 
-    // A sound disk is opened, and stays sound at every moment. It is sound if whatever a crash leaves of its three
-    // files has one history.
+    // An honest and sound disk is never refused as not made, foreign or damaged, and it stays sound at every moment. A
+    // disk is sound if in each image that a crash may leave of its three files the journal has a history, and each slot
+    // that decodes fits it.
     ensures sound { StaysSound (parts S.Source D.Disk C.Clock W.Replies P.Port (G.let_through gate.now) K.BillKeeper)
         (world disk clock out.old input.old port.old keeper.old)
         (world result.disk result.clock out.new input.new port.new keeper.new) result.status }

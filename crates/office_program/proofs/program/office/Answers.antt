@@ -51,7 +51,7 @@ returns-in-Serve-clause-survives g c honest sound =
     let status = c.serve.result.status in
     let listen = string_bytes c.in-Serve.listen in
     let does = does_served all c.as_str.result.now listen workers connections old new status c.as_str.ensures.value c.serve.ensures.serves in
-    subst (λ (l : Option Line). AnswersNothing all old new ⊎ AnswersSafely all l old new)
+    subst (λ (l : Option Line). AnswersNothing all l old new ⊎ AnswersSafely all l old new)
     (sym (c.in-Ok.ensures.read ∙ ap (λ (l : CommandLine). Some (line_of l)) c.in-Serve.is))
     (does_survive all honest (serve listen workers connections) old new status sound has.0 has.1 c.sound_now.ensures.left
     (λ _ none. absurd (none listen workers connections refl)) (λ none. absurd (none listen workers connections refl)) does)
@@ -60,6 +60,7 @@ pub returns-in-Err-clause-survives : goal.returns-in-Err-clause-survives
 returns-in-Err-clause-survives g c honest sound = inl (record {
   kept = c.sound_now.ensures.left;
   unsaid = c.refuse_line-status.ensures.silent.0;
+  unread = λ _. refl;
   unused = refl;
 })
 
@@ -70,7 +71,7 @@ returns-in_default-clause-survives g c honest sound =
     let line = line_of c.in-Ok.command in
     let old = world c.args.disk c.args.clock c.args.out.now c.args.input.now c.args.port.now c.args.keeper.now in
     let new = world c.carry_out.result.disk c.carry_out.result.clock c.carry_out.new.out c.carry_out.new.input c.args.port.now c.carry_out.new.keeper in
-    subst (λ (l : Option Line). AnswersNothing all old new ⊎ AnswersSafely all l old new)
+    subst (λ (l : Option Line). AnswersNothing all l old new ⊎ AnswersSafely all l old new)
     (sym c.in-Ok.ensures.read)
     (does_survive all honest line old new c.carry_out.result.status sound has.0 has.1 c.sound_now.ensures.left
     (λ no_run _. c.carry_out.ensures.only.unsaid no_run) (λ _. refl)
