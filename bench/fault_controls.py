@@ -24,6 +24,7 @@ CONTROLS = (
 )
 TABLES = (
     "The end of a session stops, in a new slot",
+    "The end of a session stops, after a failed sync of the first slot",
     "The end of a session stops, in the second slot",
     "The end of a session stops, in a slot that was open",
     "01: a bucket is made",

@@ -20,11 +20,16 @@ use Rattle.desk_core.specs.contracts.acked.Acked as Acked
 use Rattle.desk_core.specs.contracts.acked.Acked.TheInside as AckedInside
 use Rattle.desk_core.specs.contracts.fault.DeskFault as DeskFault
 use Rattle.desk_core.proofs.fault.DeskFault.TheSendSync as fault
+use Rattle.serving.specs.declared.gate.Gate as gates
 use Rattle.serving.specs.contracts.seated.Seated as Seated
 use Rattle.serving_tests.specs.contracts.turns_tests.Asker as Asker
 use Rattle.serving_tests.specs.contracts.turns_tests.HoldingGate as Gate
 use Rattle.serving.proofs.Crossing.{seated_send}
 use Rattle.serving_tests.proofs.turns_tests.ask_all.Goals as goal
+
+-- nothing is known of the calls that the gate let through
+abbrev lets : gates.Ghosts (Gate.the_row).Denot
+lets = record { let_through = λ gate worker call. Unit {0} }
 
 gate_sync : IsSync Gate.the_row
 gate_sync = search (crosses, sendable) depth 60 fits 20000
@@ -45,8 +50,8 @@ said_send = result.the_send _ _ acked_send fault.the_send
 module _ (a : NamedLft) (D C R : RattleType) (d : Disk.Ghosts D.Denot) (k : Clock.Ghosts C.Denot) (send_disk : IsSend D) (send_clock : IsSend C) (sync_runtime : IsSync R) where
   asker_send : IsSend (Asker.the_row a D C R d k)
   asker_send = declared_send (Asker.the_type a D C R d k) (
-    as_row_send (row_field (Seated.the_row a D C Gate.the_row R d k))
-        (seated_send a D C Gate.the_row R d k send_disk send_clock gate_sync sync_runtime),
+    as_row_send (row_field (Seated.the_row a D C Gate.the_row R d k lets))
+        (seated_send a D C Gate.the_row R d k lets send_disk send_clock gate_sync sync_runtime),
     (
       as_row_send (row_field (ShrRef a.mir a.lft Gate.the_row)) (shr_send _ _ Gate.the_row gate_sync),
       (
