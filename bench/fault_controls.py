@@ -19,12 +19,10 @@ CONTROLS = (
     "meter_journal/last-sync-left-out",
     "meter_journal/gate-opened-with-the-frame",
     "slots/saved-over-what-is-loaded",
-    "slots/first-slot-not-synced",
     "slots/gate-opened-before-the-body",
 )
 TABLES = (
     "The end of a session stops, in a new slot",
-    "The end of a session stops, after a failed sync of the first slot",
     "The end of a session stops, in the second slot",
     "The end of a session stops, in a slot that was open",
     "01: a bucket is made",
