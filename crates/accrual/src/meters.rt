@@ -72,10 +72,8 @@ impl Meters {
             → AreTotalsOf meters book) }
         ensures booked { IfOk result (λ meters. meters.booked ≡ 0) }
     {
-        match Rows::from_sums(alloc, sums) {
-            Ok(rows) => Ok(Meters { rows, booked: 0 }),
-            Err(_) => Err(NoMemory),
-        }
+        let rows = Rows::from_sums(alloc, sums)?;
+        Ok(Meters { rows, booked: 0 })
     }
 
     /// Lists the sums of the months, in order, without stays that have not ended. A month in which all sums are 0 is
@@ -89,10 +87,7 @@ impl Meters {
         ensures rising { IfOk result (λ sums. HaveRisingMonths sums.items) }
         ensures some { IfOk result (λ sums. All (λ month. IsFalse (is_nothing month)) sums.items) }
     {
-        match self.rows.sums() {
-            Ok(sums) => Ok(sums),
-            Err(_) => Err(NoMemory),
-        }
+        Ok(self.rows.sums()?)
     }
 
     /// Copies the meters: the copy agrees with the same books.
@@ -104,13 +99,11 @@ impl Meters {
         ensures stands { IfOk result (λ meters. (book : Book) → AreTotalsOf self.now book → AreTotalsOf meters book) }
         ensures booked { IfOk result (λ meters. meters.booked ≡ self.now.booked) }
     {
-        match self.rows.copy() {
-            Ok(rows) => Ok(Meters {
-                rows,
-                booked: self.booked,
-            }),
-            Err(_) => Err(NoMemory),
-        }
+        let rows = self.rows.copy()?;
+        Ok(Meters {
+            rows,
+            booked: self.booked,
+        })
     }
 
     /// Makes rows for these months, and for all months between them and the existing rows.
@@ -125,10 +118,7 @@ impl Meters {
         ensures stands { (book : Book) → AreTotalsOf self.old book → AreTotalsOf self.new book }
         ensures booked { self.new.booked ≡ self.old.booked }
     {
-        match self.rows.reserve(from.number(), to.number()) {
-            Ok(()) => Ok(()),
-            Err(_) => Err(NoMemory),
-        }
+        Ok(self.rows.reserve(from.number(), to.number())?)
     }
 
     /// Books the start of a stay with these lines. Takes no memory.

@@ -6,6 +6,7 @@ ghost use Rattle.bill_book.specs.Causes.{HasKeeperCause};
 
 use crate::bill::Bill;
 use moments::Month;
+use std::alloc::{AllocError, AllocFailed};
 
 /// Whether bills were posted by this call.
 #[derive(Clone, Copy, Debug, PartialEq, Eq)]
@@ -23,6 +24,28 @@ pub enum KeeperFault {
     Failed,
     /// Memory ran out.
     NoMemory,
+}
+
+impl From<AllocError> for KeeperFault {
+    ghost use Rattle.std.specs.Prelude.{◌≡◌};
+    ghost use Rattle.bill_book.specs.declared.keeper.KeeperFault.TheVariants.{NoMemory};
+
+    ghost from_gives = { λ _ e. e ≡ NoMemory };
+
+    fn from(_error: AllocError) -> KeeperFault {
+        KeeperFault::NoMemory
+    }
+}
+
+impl<T: Drop> From<AllocFailed<T>> for KeeperFault {
+    ghost use Rattle.std.specs.Prelude.{◌≡◌};
+    ghost use Rattle.bill_book.specs.declared.keeper.KeeperFault.TheVariants.{NoMemory};
+
+    ghost from_gives = { λ _ e. e ≡ NoMemory };
+
+    fn from(_error: AllocFailed<T>) -> KeeperFault {
+        KeeperFault::NoMemory
+    }
 }
 
 /// A book of bills: a month that was posted has a list of bills, one for each bucket, and every other month has none.

@@ -86,13 +86,9 @@ impl BillKeeper for MapKeeper {
         if self.months.contains_key(&month.number()) {
             return Ok(Posted::Before);
         }
-        let Ok(kept) = copies(self.alloc, bills) else {
-            return Err(KeeperFault::NoMemory);
-        };
-        match self.months.insert(month.number(), Items::of(kept)) {
-            Ok(_) => Ok(Posted::Now),
-            Err(_) => Err(KeeperFault::NoMemory),
-        }
+        let kept = copies(self.alloc, bills)?;
+        self.months.insert(month.number(), Items::of(kept))?;
+        Ok(Posted::Now)
     }
 
     fn bills(&mut self, month: Month) -> Result<Option<Vec<Bill>>, KeeperFault>
@@ -104,10 +100,10 @@ impl BillKeeper for MapKeeper {
             return Err(self.fail());
         }
         match self.months.get(&month.number()) {
-            Some(bills) => match copies(self.alloc, bills.as_slice()) {
-                Ok(bills) => Ok(Some(bills)),
-                Err(_) => Err(KeeperFault::NoMemory),
-            },
+            Some(bills) => {
+                let bills = copies(self.alloc, bills.as_slice())?;
+                Ok(Some(bills))
+            }
             None => Ok(None),
         }
     }

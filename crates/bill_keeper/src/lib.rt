@@ -11,5 +11,5 @@ mod sqlite_keeper;
 mod statements;
 
 pub use bill_book::{Bill, BillKeeper, KeeperFault, MapKeeper, Posted};
-pub use opening::create_table;
+pub use opening::table_in_memory;
 pub use sqlite_keeper::SqliteKeeper;

@@ -1,11 +1,14 @@
 // Where a connection comes from.
 ghost use Rattle.std.specs.Prelude.{◌≡◌, false, IfOk, OnOk};
 ghost use Rattle.sqlite.specs.Held.{state};
+ghost use Rattle.sqlite.specs.Steps.{over_memory};
 ghost use Rattle.bill_keeper.specs.Ready.{HasNoRows, HasTable, no_schema};
 
 use crate::month_table::fault_of;
 use bill_book::KeeperFault;
-use sqlite::{Alter, Connection, Error, ErrorCode, File, FileStore};
+use office_base::NoMemory;
+use sqlite::{Alter, Connection, Error, ErrorCode, File, FileStore, MemStore};
+use std::alloc::Global;
 
 // Makes the table of bills if there is none.
 fn make_table<S: Alter>(conn: &mut Connection<S>) -> Result<(), Error>
@@ -35,12 +38,8 @@ fn create_in<S: Alter>(conn: &mut Connection<S>) -> Result<usize, Error>
     )
 }
 
-/// Makes the table of bills in a database that has no table yet, so that its connection may be handed to a keeper.
-///
-/// # Errors
-///
-/// The error of the database, or that a transaction is open. Nothing is then known of the table.
-pub fn create_table<S: Alter>(conn: &mut Connection<S>) -> Result<(), Error>
+// Makes the table of bills in a database that has no table yet.
+fn create_table<S: Alter>(conn: &mut Connection<S>) -> Result<(), Error>
     requires blank { (state S.Store conn.old).now.schema ≡ no_schema }
     ensures table { OnOk result (HasTable (state S.Store conn.new)) }
     ensures empty { OnOk result (HasNoRows (state S.Store conn.new)) }
@@ -51,6 +50,23 @@ pub fn create_table<S: Alter>(conn: &mut Connection<S>) -> Result<(), Error>
         Ok(())
     } else {
         Err(Error::SqliteFailure(ErrorCode::TransactionState))
+    }
+}
+
+/// Makes a database in memory that has the table of bills and no rows. A keeper may be made over its connection.
+///
+/// # Errors
+///
+/// `NoMemory`: memory ran out. Nothing else fails in memory.
+pub fn table_in_memory(alloc: Global) -> Result<Connection<MemStore>, NoMemory>
+    ensures table { IfOk result (λ conn. HasTable (state over_memory conn)) }
+    ensures empty { IfOk result (λ conn. HasNoRows (state over_memory conn)) }
+    ensures idle { IfOk result (λ conn. conn.in_transaction ≡ false) }
+{
+    let mut conn = Connection::open_in_memory(alloc)?;
+    match create_table(&mut conn) {
+        Ok(()) => Ok(conn),
+        Err(_) => Err(NoMemory),
     }
 }
 

@@ -12,7 +12,7 @@ ghost use Rattle.bill_keeper.specs.Reading.{ReadsBills, IsBillRead, IsHeaderOf, 
 use bill_book::Bill;
 use office_base::{BucketName, NameRefusal};
 use sqlite::{Error, ErrorCode, Row};
-use std::alloc::Global;
+use std::alloc::{AllocFailed, Global};
 
 /// Why rows were not read.
 #[derive(Clone, Copy, Debug, PartialEq, Eq)]
@@ -21,6 +21,17 @@ pub(crate) enum RowFault {
     Unreadable,
     /// Memory ran out.
     NoMemory,
+}
+
+impl<T: Drop> From<AllocFailed<T>> for RowFault {
+    ghost use Rattle.std.specs.Prelude.{◌≡◌};
+    ghost use Rattle.bill_keeper.specs.declared.row_bills.RowFault.TheVariants.{NoMemory};
+
+    ghost from_gives = { λ _ e. e ≡ NoMemory };
+
+    fn from(_error: AllocFailed<T>) -> RowFault {
+        RowFault::NoMemory
+    }
 }
 
 fn fault_of(error: Error) -> RowFault {
@@ -101,10 +112,7 @@ fn bill_of(alloc: Global, row: &Row) -> Result<Bill, RowFault>
 fn push_bill(bills: &mut Vec<Bill>, bill: Bill) -> Result<(), RowFault>
     ensures { IfOk result (λ _. bills.new.items ≡ bills.old.items ++ bill ∷ []) }
 {
-    match bills.push(bill) {
-        Ok(()) => Ok(()),
-        Err(_) => Err(RowFault::NoMemory),
-    }
+    Ok(bills.push(bill)?)
 }
 
 // Whether each bill's bucket is below that of the next.

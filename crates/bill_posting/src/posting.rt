@@ -12,6 +12,7 @@ ghost use Rattle.bill_posting.specs.Posting.{IsReceiptOf};
 use crate::tally::bills_of;
 use bill_book::{Bill, BillKeeper, KeeperFault, Posted};
 use moments::Month;
+use office_base::NoMemory;
 use office_types::ReportLine;
 use std::alloc::Global;
 
@@ -38,6 +39,17 @@ pub enum PostFault {
     KeeperFault,
     /// Memory ran out.
     NoMemory,
+}
+
+impl From<NoMemory> for PostFault {
+    ghost use Rattle.std.specs.Prelude.{◌≡◌};
+    ghost use Rattle.bill_posting.specs.declared.posting.PostFault.TheVariants.{NoMemory};
+
+    ghost from_gives = { λ _ e. e ≡ NoMemory };
+
+    fn from(_error: NoMemory) -> PostFault {
+        PostFault::NoMemory
+    }
 }
 
 fn is_same_bill(kept: &Bill, asked: &Bill) -> bool
@@ -87,10 +99,9 @@ fn kept_of<K: BillKeeper>(
     ensures reads { Told (K.book keeper.old) (K.book keeper.new) (λ old new. ReadsKept month old new result) }
     ensures cause { HasKeeperCause (K.faults keeper.old) (K.faults keeper.new) result }
 {
-    match keeper.bills(month) {
-        Ok(Some(kept)) => Ok(kept),
-        Ok(None) => Ok(Vec::new(alloc)),
-        Err(fault) => Err(fault),
+    match keeper.bills(month)? {
+        Some(kept) => Ok(kept),
+        None => Ok(Vec::new(alloc)),
     }
 }
 
@@ -156,9 +167,7 @@ pub fn post_month<K: BillKeeper>(
     ensures adds_up { IfOk result (λ receipt. receipt.total ≡ charges lines.now) }
     ensures cause { HasPostCause (K.faults keeper.old) (K.faults keeper.new) result }
 {
-    let Ok(bills) = bills_of(alloc, lines) else {
-        return Err(PostFault::NoMemory);
-    };
+    let bills = bills_of(alloc, lines)?;
     let receipt = Receipt {
         bills: bills.len() as u32,
         total: total_of(&bills),
@@ -166,13 +175,13 @@ pub fn post_month<K: BillKeeper>(
     };
     match keeper.post(month, &bills) {
         Ok(Posted::Now) => Ok(receipt),
-        Ok(Posted::Before) => match check_kept(alloc, keeper, month, bills) {
-            Ok(()) => Ok(Receipt {
+        Ok(Posted::Before) => {
+            check_kept(alloc, keeper, month, bills)?;
+            Ok(Receipt {
                 before: true,
                 ..receipt
-            }),
-            Err(fault) => Err(fault),
-        },
+            })
+        }
         Err(fault) => Err(fault_of(fault)),
     }
 }

@@ -34,13 +34,9 @@ fn add_line(tallies: &mut BTreeMap<BucketName, Tally>, line: &ReportLine) -> Res
             lines: 1,
         },
     };
-    let Ok(bucket) = line.bucket.copy() else {
-        return Err(NoMemory);
-    };
-    match tallies.insert(bucket, tally) {
-        Ok(_) => Ok(()),
-        Err(_) => Err(NoMemory),
-    }
+    let bucket = line.bucket.copy()?;
+    tallies.insert(bucket, tally)?;
+    Ok(())
 }
 
 fn tally_lines(alloc: Global, lines: &[ReportLine]) -> Result<BTreeMap<BucketName, Tally>, NoMemory>
@@ -72,9 +68,7 @@ pub(crate) fn bills_of(alloc: Global, lines: &[ReportLine]) -> Result<Vec<Bill>,
             total: tally.total,
             lines: tally.lines,
         };
-        if bills.push(bill).is_err() {
-            return Err(NoMemory);
-        }
+        bills.push(bill)?;
     }
     Ok(bills)
 }

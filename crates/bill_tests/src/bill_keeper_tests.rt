@@ -1,10 +1,8 @@
 // The keeper of bills over a table in memory, over its own file, and over a file whose rows are not well made.
-ghost use Rattle.std.specs.Prelude.{◌≡◌, IfSome};
-ghost use Rattle.sqlite.specs.Held.{state};
+ghost use Rattle.std.specs.Prelude.{IfSome};
 ghost use Rattle.bill_book.specs.Bills.{AreBills};
-ghost use Rattle.bill_keeper.specs.Ready.{no_schema};
 
-use bill_keeper::{Bill, BillKeeper, KeeperFault, Posted, SqliteKeeper, create_table};
+use bill_keeper::{Bill, BillKeeper, KeeperFault, Posted, SqliteKeeper, table_in_memory};
 use moments::Month;
 use office_base::BucketName;
 use sqlite::{Alter, Connection, File, FileStore, MemStore, Row, params};
@@ -99,22 +97,9 @@ fn a_file_keeps_the_bills(rt: HostRuntime) {
     assert_eq!(rt; read(&mut keeper, february), Ok(Some((0, 0))));
 }
 
-// A keeper over the table that it makes in a database that has none.
-fn over_table<S: Alter + Drop>(
-    alloc: Global,
-    mut connection: Connection<S>,
-) -> Option<SqliteKeeper<S>>
-    requires { (state S.Store connection).now.schema ≡ no_schema }
-{
-    match create_table(&mut connection) {
-        Ok(()) => Some(SqliteKeeper::over(alloc, connection)),
-        Err(_) => None,
-    }
-}
-
 fn in_memory(alloc: Global) -> Option<SqliteKeeper<MemStore>> {
-    match Connection::open_in_memory(alloc) {
-        Ok(connection) => over_table(alloc, connection),
+    match table_in_memory(alloc) {
+        Ok(connection) => Some(SqliteKeeper::over(alloc, connection)),
         Err(_) => None,
     }
 }

@@ -157,10 +157,7 @@ impl Account {
     pub fn records(&self, alloc: Global) -> Result<Bucket, NoMemory>
         ensures { IfOk result (λ bucket. bucket ≡ self.now.bucket) }
     {
-        match copy_of(alloc, &self.bucket) {
-            Ok(bucket) => Ok(bucket),
-            Err(_) => Err(NoMemory),
-        }
+        Ok(copy_of(alloc, &self.bucket)?)
     }
 
     /// Copies the account.
@@ -240,14 +237,17 @@ impl Account {
         first_of(&self.index, &self.bucket, t)
     }
 
-    /// Counts the keys and the uploads that have an eligible action; `None` only if memory for an index of them ran
-    /// out. Takes no memory.
-    pub fn queued(&self) -> Option<u64>
-        ensures exact { IfSome result (λ entries. entries ≡ entry_count self.now.bucket) }
+    /// Counts the keys and the uploads that have an eligible action. Takes no memory.
+    ///
+    /// # Errors
+    ///
+    /// `NoMemory`: when the index of them was to be made, memory ran out.
+    pub fn queued(&self) -> Result<u64, NoMemory>
+        ensures exact { IfOk result (λ entries. entries ≡ entry_count self.now.bucket) }
     {
         match &self.index {
-            Some(index) => Some(entries_of(index, &self.bucket)),
-            None => None,
+            Some(index) => Ok(entries_of(index, &self.bucket)),
+            None => Err(NoMemory),
         }
     }
 

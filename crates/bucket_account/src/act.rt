@@ -25,7 +25,7 @@ use accrual::Meters;
 use due_core::{Action, ActionKind, Bucket, Target};
 use due_index::DueIndex;
 use moments::Moment;
-use office_base::{NoMemory, Text, VersionId};
+use office_base::{Text, VersionId};
 use office_types::{Refusal, Reply};
 use rules_core::RuleSet;
 use stacks::Kind;
@@ -170,9 +170,7 @@ fn act_on(
     ensures fits { IfOk result (λ done. ReplyFits done.reply) }
     ensures index { IfSome index.new (λ index. StandsFor index bucket.new) }
 {
-    let Ok(rule) = rule_id(alloc, &bucket.rules, action.rule) else {
-        return Err(Refusal::NoMemory);
-    };
+    let rule = rule_id(alloc, &bucket.rules, action.rule)?;
     let marker = marker_made(action.kind, bucket);
     let counts = do_action(bucket, meters, alloc, t, &action, counts)?;
     renew_target(index, bucket, &action);
@@ -218,12 +216,11 @@ pub(crate) fn act(
     ensures index { IfSome index.new (λ index. StandsFor index bucket.new) }
 {
     build_where_none(index, alloc, bucket);
-    match first_of(index, bucket, t) {
-        Ok(Some(action)) => act_on(bucket, meters, index, alloc, t, action, counts),
-        Ok(None) => Ok(Done {
+    match first_of(index, bucket, t)? {
+        Some(action) => act_on(bucket, meters, index, alloc, t, action, counts),
+        None => Ok(Done {
             counts,
             reply: Reply::NothingDue,
         }),
-        Err(NoMemory) => Err(Refusal::NoMemory),
     }
 }

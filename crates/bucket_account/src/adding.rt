@@ -101,10 +101,7 @@ fn stacked(stack: &mut Stack, incoming: Incoming) -> Result<Option<Version>, Ref
     ensures err { OnErr result (stack.new ≡ stack.old) }
     ensures refusal { IfErr result (λ refusal. refusal ≡ Refusal.NoMemory) }
 {
-    match put_kind(stack, incoming) {
-        Ok(gone) => Ok(gone),
-        Err(NoMemory) => Err(Refusal::NoMemory),
-    }
+    Ok(put_kind(stack, incoming)?)
 }
 
 /// Puts a version on the others of its key.
@@ -168,12 +165,8 @@ fn put_first(
     let opened = kind_billed(key, &incoming.kind);
     let mut stack = Stack::new(alloc, at);
     stacked(&mut stack, incoming)?;
-    let Ok(kept) = key.copy() else {
-        return Err(Refusal::NoMemory);
-    };
-    if stacks.insert(kept, stack).is_err() {
-        return Err(Refusal::NoMemory);
-    }
+    let kept = key.copy()?;
+    stacks.insert(kept, stack)?;
     meters.open(&opened, at);
     Ok(())
 }

@@ -24,10 +24,7 @@ pub(crate) fn reserve(meters: &mut Meters, from: Moment, to: Moment) -> Result<(
     ensures booked { meters.new.booked ≡ meters.old.booked }
     ensures refusal { IfErr result (λ refusal. refusal ≡ Refusal.NoMemory) }
 {
-    match meters.reserve(month_of(from), month_of(to)) {
-        Ok(()) => Ok(()),
-        Err(NoMemory) => Err(Refusal::NoMemory),
-    }
+    Ok(meters.reserve(month_of(from), month_of(to))?)
 }
 
 /// Returns the lines of an object.

@@ -49,9 +49,7 @@ pub(crate) fn whole(
     let Ok(size) = upload.whole() else {
         return Err(Refusal::NoParts);
     };
-    let Ok(tags) = upload.tags().copy() else {
-        return Err(Refusal::NoMemory);
-    };
+    let tags = upload.tags().copy()?;
     let kind = Kind::Object {
         size,
         class: upload.class(),

@@ -1,6 +1,7 @@
 // Counts what a bucket has of each kind that has a limit, in passes over its records.
 ghost use Rattle.std.specs.Prelude.{◌≡◌, ◌+◌, ◌^◌, ◌<◌, ◌≤◌, length, sum_by, IfOk};
-ghost use Rattle.plain_office.specs.Counts.{version_count, part_count, name_bytes, rules_bytes, tag_bytes, tag_bytes_of};
+ghost use Rattle.plain_office.specs.Counts.{version_count, part_count, name_bytes};
+ghost use Rattle.plain_office.specs.Counts.{rules_bytes, tag_bytes, tag_bytes_of};
 
 use crate::incoming::{kind_bytes, tag_bytes};
 use due_core::Bucket;
@@ -89,10 +90,10 @@ pub(crate) fn count_text(alloc: Global, rules: &Option<RuleSet>) -> Result<u64, 
     ensures { IfOk result (λ bytes. bytes ≡ rules_bytes rules.now) }
 {
     match rules {
-        Some(rules) => match print_rules(alloc, rules) {
-            Ok(text) => Ok(text.len() as u64),
-            Err(_) => Err(NoMemory),
-        },
+        Some(rules) => {
+            let text = print_rules(alloc, rules)?;
+            Ok(text.len() as u64)
+        }
         None => Ok(0),
     }
 }

@@ -136,14 +136,12 @@ pub(crate) fn delete(
 }
 
 /// Returns the refusal of a version that is not in this stack; `None` if it is there.
-#[tactic(auto, using(crate::proofs::Deletes::any_found))]
 fn missing_in(stack: &Stack, id: &VersionId) -> Option<Refusal>
     ensures { result ≡ missing_from id.now (Some stack.now) }
 {
-    if stack.has(*id) {
-        None
-    } else {
-        Some(Refusal::NoSuchVersion)
+    match stack.version(*id) {
+        Some(_) => None,
+        None => Some(Refusal::NoSuchVersion),
     }
 }
 

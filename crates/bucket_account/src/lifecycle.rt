@@ -28,10 +28,8 @@ fn text_length(alloc: Global, rules: &RuleSet) -> Result<u64, Refusal>
     ensures ok { IfOk result (λ bytes. bytes ≡ length (printed rules.now)) }
     ensures refusal { IfErr result (λ refusal. refusal ≡ Refusal.NoMemory) }
 {
-    match print_rules(alloc, rules) {
-        Ok(text) => Ok(text.len() as u64),
-        Err(_) => Err(Refusal::NoMemory),
-    }
+    let text = print_rules(alloc, rules)?;
+    Ok(text.len() as u64)
 }
 
 /// Returns the counts after a text of `come` bytes replaced one of `gone` bytes.
@@ -82,9 +80,7 @@ pub(crate) fn set_rules(
 {
     let count = rules.rules().len() as u32;
     let counts = moved(counts, text_bytes, text_length(alloc, rules)?).within(&ADDED)?;
-    let Ok(kept) = rules.copy() else {
-        return Err(Refusal::NoMemory);
-    };
+    let kept = rules.copy()?;
     bucket.rules = Some(kept);
     bucket.rules_since = t;
     Ok(Done {

@@ -100,9 +100,7 @@ fn retag(
 {
     let before = bytes_at(stack, *id)?;
     let after = counted(counts, before, tags)?;
-    let Ok(copy) = tags.copy() else {
-        return Err(Refusal::NoMemory);
-    };
+    let copy = tags.copy()?;
     replace(stack, id, copy, at);
     Ok(after)
 }

@@ -60,12 +60,8 @@ fn started(
     ensures ok { IfOk result (λ upload. upload ≡ new_upload key.now class tags.now t) }
     ensures refusal { IfErr result (λ refusal. refusal ≡ Refusal.NoMemory) }
 {
-    let Ok(key) = key.copy() else {
-        return Err(Refusal::NoMemory);
-    };
-    let Ok(tags) = tags.copy() else {
-        return Err(Refusal::NoMemory);
-    };
+    let key = key.copy()?;
+    let tags = tags.copy()?;
     Ok(Upload::start(alloc, key, class, tags, t))
 }
 
@@ -106,9 +102,7 @@ pub(crate) fn start_upload(
     let number = bucket.next_upload;
     let counts = counted(counts, key, tags)?;
     let upload = started(alloc, key, class, tags, t)?;
-    if bucket.uploads.insert(number, upload).is_err() {
-        return Err(Refusal::NoMemory);
-    }
+    bucket.uploads.insert(number, upload)?;
     bucket.next_upload = number + 1;
     Ok(Done {
         counts,

@@ -159,8 +159,6 @@ pub fn body_of(alloc: Global, snapshot: &Snapshot) -> Result<Vec<u8>, NoMemory>
     ensures in_range { IfOk result (λ _. body_format.has snapshot.now ≡ true) }
 {
     let mut out = Vec::new(alloc);
-    match put_body(&mut out, snapshot) {
-        Ok(()) => Ok(out),
-        Err(_) => Err(NoMemory),
-    }
+    put_body(&mut out, snapshot)?;
+    Ok(out)
 }

@@ -71,10 +71,9 @@ pub fn load<D: Disk>(alloc: Global, disk: &mut D) -> Result<Option<(Snapshot, u6
     ensures untouched { OnlyReads D.Disk disk.old disk.new }
     ensures cause { HasSaveCause (D.fault_count disk.old) (D.fault_count disk.new) result }
 {
-    match slots::load::<D, Checkpoint>(alloc, disk) {
-        Ok(Some((checkpoint, position))) => Ok(Some((checkpoint.snapshot, position))),
-        Ok(None) => Ok(None),
-        Err(fault) => Err(fault),
+    match slots::load::<D, Checkpoint>(alloc, disk)? {
+        Some((checkpoint, position)) => Ok(Some((checkpoint.snapshot, position))),
+        None => Ok(None),
     }
 }
 
@@ -125,8 +124,6 @@ pub fn save<D: Disk>(
 
     ensures cause { HasSaveCause (D.fault_count disk.old) (D.fault_count disk.new) result }
 {
-    match body_of(alloc, snapshot) {
-        Ok(body) => slots::save::<D, Checkpoint>(alloc, disk, position, &body),
-        Err(_) => Err(SaveFault::NoMemory),
-    }
+    let body = body_of(alloc, snapshot)?;
+    slots::save::<D, Checkpoint>(alloc, disk, position, &body)
 }

@@ -134,9 +134,8 @@ pub(crate) fn token_in(alloc: Global, bytes: &[u8]) -> Result<Option<(Token, &[u
     let Some((token, rest)) = short_counted_in(bytes) else {
         return Ok(None);
     };
-    match Token::read(alloc, token) {
-        Ok(Some(token)) => Ok(Some((token, rest))),
-        Ok(None) => Ok(None),
-        Err(_) => Err(NoMemory),
+    match Token::read(alloc, token)? {
+        Some(token) => Ok(Some((token, rest))),
+        None => Ok(None),
     }
 }

@@ -54,9 +54,7 @@ fn command_with(text: &[u8], entry: Entry) -> Option<Command>
 fn command_of(alloc: Global, text: &[u8]) -> Result<Option<Command>, NoMemory>
     ensures { Finds (λ command. command) result (command_texts.value text.now) }
 {
-    let Ok(bytes) = entry_with(alloc, text) else {
-        return Err(NoMemory);
-    };
+    let bytes = entry_with(alloc, text)?;
     match decode(alloc, &bytes) {
         Ok(entry) => Ok(command_with(text, entry)),
         Err(e) => match e {

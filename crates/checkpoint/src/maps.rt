@@ -36,9 +36,7 @@ pub(crate) fn map_of<K: Ord + Drop, V: Drop>(
         if !is_past(&map, &key) {
             return Ok(None);
         }
-        if map.insert(key, value).is_err() {
-            return Err(NoMemory);
-        }
+        map.insert(key, value)?;
     }
     Ok(Some(map))
 }

@@ -33,9 +33,7 @@ pub(crate) fn items_in<T: Spelled>(
         let Some((item, after)) = T::read(alloc, rest)? else {
             return Ok(None);
         };
-        if items.push(item).is_err() {
-            return Err(NoMemory);
-        }
+        items.push(item)?;
         rest = after;
     }
     Ok(Some((items, rest)))

@@ -246,10 +246,8 @@ fn forecast(alloc: Global, given: &ArgMatches) -> Result<CommandLine, LineFault>
     let Some(day) = midnight(date) else {
         return Err(LineFault::NotALine);
     };
-    match bucket(alloc, name) {
-        Ok(bucket) => Ok(CommandLine::Forecast(ForecastAsked { bucket, day })),
-        Err(fault) => Err(fault),
-    }
+    let bucket = bucket(alloc, name)?;
+    Ok(CommandLine::Forecast(ForecastAsked { bucket, day }))
 }
 
 // What the words of `report` ask for.

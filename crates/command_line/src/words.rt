@@ -3,7 +3,8 @@ ghost use Rattle.std.specs.Prelude.{◌≡◌, IfOk, false};
 ghost use Rattle.clap.specs.Walk.{rule_of};
 ghost use Rattle.clap.specs.Simple.{new_shape};
 ghost use Rattle.command_line.specs.Words.{option, needed_option, needed_word, flag};
-ghost use Rattle.command_line.specs.Words.{serve_words, report_words, explain_words, gen_words, bill_words, forecast_words, alone};
+ghost use Rattle.command_line.specs.Words.{serve_words, report_words, explain_words};
+ghost use Rattle.command_line.specs.Words.{gen_words, bill_words, forecast_words, alone};
 ghost use Rattle.command_line.specs.Words.{office_top, office_words, IsWholeCommand, GetsOption, GetsSubcommand};
 
 use clap::{Arg, ArgAction, Command};

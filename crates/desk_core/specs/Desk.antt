@@ -94,8 +94,8 @@ abbrev pub IsStamped : Result Answer DeskFault → ℕ → ℕ → Type 0
 IsStamped (Ok answer) end moment = (answer.position ≡ end) × (answer.disk_moment ≡ moment)
 IsStamped (Err fault) end moment = Unit {0}
 
--- `StoreFault` if and only if the disk failed in the call, with its count at the return; after anything else the count
--- is as before
+-- after `StoreFault` the disk failed in the call, and the count is the disk's at the return; after anything else the
+-- count is as before
 abbrev pub TellsFault : Result Answer DeskFault → ℕ → ℕ → Type 0
 TellsFault (Ok answer) before after = after ≡ before
 TellsFault (Err (faults.StoreFault number count)) before after = Rose before after × (count ≡ after)

@@ -53,8 +53,8 @@ IsAcceptedAt t question view = IsSomeAnd (asked question) (λ call.
     (t < end_of_time) × ((office : Office) → machine.StandsFor view office
     → IsFresh call office × IsTrue (is_accepted (step_with t call.token call.command office).1)))
 
--- `StoreFault` if and only if the disk failed in the call, with its count at the return, and only for a command that the
--- office accepts; after anything else the count is as before
+-- after `StoreFault` the disk failed in the call, the count is the disk's at the return, and the office accepts the
+-- command; after anything else the count is as before
 abbrev pub HasStoreReason : Result Answer DeskFault → Ask → OfficeView → ℕ → ℕ → Type 0
 HasStoreReason (Err (faults.StoreFault (Some number) count)) question view before after =
     Rose before after × (count ≡ after) × IsAcceptedAt (moment_after number view.records.last) question view
@@ -104,8 +104,8 @@ KeepsOrAdds t question before s = (image : List ℕ) → IsImage s.journal image
     → HasAcceptedHistory before image
     ⊎ IsSomeAnd (asked question) (λ call. HasAcceptedHistory (before ++ entry_of t call ∷ []) image)
 
--- A command that the office accepts, and under whose token no reply is kept, is answered once two syncs or more were
--- done, the last of them after each write.
+-- A command that the office accepts, and under whose token no reply is kept, is answered once two syncs or more of the
+-- journal were done, the last of them after each write to the journal.
 abbrev pub IsSyncedFirst : Tally → Tally → Ask → OfficeView → Result Answer DeskFault → Type 0
 IsSyncedFirst old new question view (Ok answer) =
     IfSome (asked question) (λ call. IsNotKept call view → IsTrue (is_accepted answer.reply) → IsDurable old new)

@@ -87,7 +87,7 @@ impl<D: Disk + Drop, C: Clock + Drop> Desk<D, C> {
         // If it is not opened, the bytes that are read tell why, unless the disk failed or memory ran out.
         ensures fails { IsTrue D.tells → IfErr result (λ e. OpenFailsOn e.0 (D.state disk)) }
 
-        // So a sound disk is opened.
+        // So a sound disk is refused only if it failed or memory ran out.
         ensures sound { IsTrue D.honest → IsSound (D.state disk)
             → IfErr result (λ e. (e.0 ≡ OpenFault.StoreFault) ⊎ (e.0 ≡ OpenFault.NoMemory)) }
 
@@ -176,9 +176,7 @@ impl<D: Disk + Drop, C: Clock + Drop> Desk<D, C> {
         ensures disk_later { D.fault_count self.old.disk ≤ D.fault_count self.new.disk }
     {
         let was_stale = self.engine.stale();
-        if let Err(fault) = self.engine.refresh() {
-            return Err(fault);
-        }
+        self.engine.refresh()?;
         let said = self.engine.answer_now(ask);
         self.engine.mark(was_stale, &said);
         said

@@ -31,9 +31,7 @@ impl<D: Disk + Drop, C: Clock + Drop> Engine<D, C> {
             return Ok(());
         }
         let position = self.journal.end();
-        let Ok(snapshot) = self.office.snapshot(self.alloc) else {
-            return Err(SaveFault::NoMemory);
-        };
+        let snapshot = self.office.snapshot(self.alloc)?;
         each_has_six_numbers(&snapshot);
         save(self.alloc, self.journal.disk_mut(), position, &snapshot)
     }

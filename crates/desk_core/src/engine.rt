@@ -254,9 +254,7 @@ impl<D: Disk + Drop, C: Clock + Drop> Engine<D, C> {
         ensures opened_at { self.new.opened_at ≡ self.old.opened_at }
         ensures later { D.fault_count self.old.disk ≤ D.fault_count self.new.disk }
     {
-        let Ok(bytes) = encode_command(self.alloc, moment, token, command) else {
-            return Err(DeskFault::NoMemory);
-        };
+        let bytes = encode_command(self.alloc, moment, token, command)?;
         if !self.journal.fits(bytes.len() as u64) {
             return Err(DeskFault::JournalFull);
         }

@@ -46,13 +46,13 @@ fn beginning<D: Disk>(alloc: Global, disk: &mut D) -> Result<LoadedOffice, OpenF
             office: Office::new(alloc),
             from: None,
         }),
-        Ok(Some((snapshot, place))) => match Office::restore(alloc, snapshot) {
-            Err(_) => Err(OpenFault::NoMemory),
-            Ok(office) => Ok(LoadedOffice {
+        Ok(Some((snapshot, place))) => {
+            let office = Office::restore(alloc, snapshot)?;
+            Ok(LoadedOffice {
                 office,
                 from: Some(place),
-            }),
-        },
+            })
+        }
     }
 }
 
@@ -69,9 +69,7 @@ fn take(office: &mut Office, entry: Entry, gate: u64) -> Result<(), OpenFault>
     if !is_in_order(office.last(), entry.moment) {
         return Err(OpenFault::Damaged { offset: gate });
     }
-    if let Err(fault) = entry_is_new(office, &entry, gate) {
-        return Err(fault);
-    }
+    entry_is_new(office, &entry, gate)?;
     match office.apply(entry.moment, entry.token.as_ref(), &entry.command) {
         Ok(reply) => entry_taken(&reply, gate),
         Err(refusal) => Err(entry_refused(refusal, gate)),
@@ -98,16 +96,10 @@ fn replay<D: Disk>(
 {
     'reading: loop {
         let gate = journal.end();
-        let read = match journal.next(alloc, end) {
-            Ok(read) => read,
-            Err(fault) => return Err(fault),
-        };
+        let read = journal.next(alloc, end)?;
         match read {
             None => return Ok(()),
-            Some(entry) => match take(office, entry, gate) {
-                Ok(()) => {}
-                Err(fault) => return Err(fault),
-            },
+            Some(entry) => take(office, entry, gate)?,
         }
     }
 }
@@ -127,14 +119,8 @@ impl<D: Disk + Drop, C: Clock + Drop> Engine<D, C> {
         ensures opened_at { self.new.opened_at ≡ self.old.opened_at }
         ensures cause { HasStoreCause (D.fault_count self.old.disk) (D.fault_count self.new.disk) result }
     {
-        let beginning = match beginning(self.alloc, self.journal.disk_mut()) {
-            Ok(beginning) => beginning,
-            Err(fault) => return Err(fault),
-        };
-        let end = match self.journal.open(beginning.from) {
-            Ok(end) => end,
-            Err(fault) => return Err(fault),
-        };
+        let beginning = beginning(self.alloc, self.journal.disk_mut())?;
+        let end = self.journal.open(beginning.from)?;
         self.office = beginning.office;
         replay(self.alloc, &mut self.journal, end, &mut self.office)
     }

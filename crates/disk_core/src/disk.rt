@@ -2,7 +2,8 @@
 ghost use Rattle.std.specs.Prelude.{◌≡◌, ◌+◌, ◌<◌, ◌≤◌, ℕ, get_or, Bool, IsTrue, length, take, drop, IfOk, OnOk, OnErr};
 ghost use Rattle.disk_core.specs.declared.disk.FileNo.{FileNo};
 ghost use Rattle.office_base.specs.Faults.{HasCause};
-ghost use Rattle.disk_core.specs.Files.{State, IsImage, file_in, seen_in, put, SameReads, Wrote, Shortened, Synced, Unsynced};
+ghost use Rattle.disk_core.specs.Files.{State, IsImage, file_in, seen_in, put};
+ghost use Rattle.disk_core.specs.Files.{SameReads, Wrote, Shortened, Synced, Unsynced};
 ghost use Rattle.disk_core.specs.Calls.{Elapses};
 ghost use Rattle.disk_core.specs.Tallies.{Tally, IsWritten, IsSynced};
 
@@ -30,7 +31,8 @@ pub enum FileNo {
 /// fails leaves it. A call that failed may have happened in part, as its docstring says.
 ///
 /// Every disk tells its count of faults, and its tally: how often it was to be written or cut, and how often it was
-/// synced. Contents and lengths are told by a disk that `tells`; what a write and a sync leave, by one that is `honest`.
+/// synced. Contents and lengths are told by a disk that `tells`; what a write and a sync leave, by one that is
+/// `honest`.
 pub trait Disk {
     /// Whether lengths and reads are those of its state.
     ghost tells: { Bool };

@@ -18,8 +18,8 @@ use std::snapshot::Snapshot;
 // What most file systems give a file at a time, in bytes.
 const BLOCK: u64 = 4_096;
 
-/// Three files, as of the operating system. Of what they hold nothing is promised; each call of the disk is that call of
-/// its file, and fails where that one does.
+/// Three files, as of the operating system. Of what they hold nothing is promised; each call of the disk is that call
+/// of its file, and fails where that one does.
 ///
 /// A sync makes a file's bytes and its length durable, and no other attribute of it. A file that could not be
 /// opened is `None`: each call on it fails and is counted.
@@ -218,7 +218,8 @@ impl<F: DiskFile> Disk for FileDisk<F> {
     }
 
     fn read_at(&mut self, file: FileNo, at: u64, room: &mut [u8]) -> Result<(), Failed>
-        ensures asks { Asks F.DiskFile file (reads at (length room.old)) (bytes_given room.new result) (opened self.old) (opened self.new) }
+        ensures asks { Asks F.DiskFile file (reads at (length room.old)) (bytes_given room.new result)
+            (opened self.old) (opened self.new) }
         ensures tally { file_tally self.new ≡ file_tally self.old }
         ensures time { Elapses (λ _. empty_disk) (λ _. 0) (λ _ _ s. s ≡ empty_disk) self.old self.new }
         ensures cause { HasCause (file_faults self.old) (file_faults self.new) result }
@@ -229,7 +230,8 @@ impl<F: DiskFile> Disk for FileDisk<F> {
     }
 
     fn write_at(&mut self, file: FileNo, at: u64, bytes: &[u8]) -> Result<(), Failed>
-        ensures asks { Asks F.DiskFile file (writes at bytes.now) (whether_done result) (opened self.old) (opened self.new) }
+        ensures asks { Asks F.DiskFile file (writes at bytes.now) (whether_done result)
+            (opened self.old) (opened self.new) }
         ensures tally { IsWritten file (file_tally self.old) (file_tally self.new) }
         ensures time { Elapses (λ _. empty_disk) (λ _. 0) (λ _ _ s. s ≡ empty_disk) self.old self.new }
         ensures cause { HasCause (file_faults self.old) (file_faults self.new) result }

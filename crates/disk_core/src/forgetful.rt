@@ -26,8 +26,8 @@ pub enum Loss {
 
 /// Three files in memory, of which no sync makes anything durable.
 ///
-/// Its syncs are answered like those of any disk, but for one: that one fails, and its file then has lost what it is told
-/// to lose. So it reads as some disks do that dropped pages which they could not write. Of images nothing is told.
+/// Its syncs are answered like those of any disk, but for one: that one fails, and its file then has lost what it is
+/// told to lose. So it reads as some disks do that dropped pages which they could not write. Of images nothing is told.
 #[derive(Drop)]
 pub struct ForgetfulDisk {
     disk: MemoryDisk,

@@ -17,7 +17,7 @@ use crate::pending::Pending;
 use crate::tally::Counts;
 use crate::{Disk, FileNo};
 use office_base::{Failed, NoMemory};
-use std::alloc::{AllocError, AllocFailed, Global};
+use std::alloc::{AllocError, Global};
 use std::snapshot::Snapshot;
 
 // A call that a disk in memory has kept; places and lengths are in bytes.
@@ -120,10 +120,7 @@ impl MemoryDisk {
         ensures each { IfOk result (λ images. GivesEach (file_in file (state_at self.now after)) images.items) }
     {
         let count = (after as usize).min(self.calls.len());
-        match find_images(&self.calls[..count], file, self.alloc) {
-            Ok(images) => Ok(images),
-            Err(_) => Err(NoMemory),
-        }
+        Ok(find_images(&self.calls[..count], file, self.alloc)?)
     }
 
     // The length of a file, in bytes. It is no call.

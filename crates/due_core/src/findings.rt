@@ -54,10 +54,7 @@ impl<'a> Findings<'a> {
         ensures { IfOk result (λ _. self.new ≡ took self.old next.entry) }
     {
         if let Some(all) = &mut self.all {
-            return match all.push(next) {
-                Ok(()) => Ok(()),
-                Err(_) => Err(NoMemory),
-            };
+            return Ok(all.push(next)?);
         }
         self.first = Some(sooner(self.first.take(), next));
         Ok(())
@@ -99,10 +96,7 @@ impl<'a> Findings<'a> {
 fn sort(found: &mut Vec<Found<'_>>) -> Result<(), NoMemory>
     ensures { IfOk result (λ _. IsInOrder found.old.items found.new.items) }
 {
-    match found.sort_by(|a, b| precedence(a, b)) {
-        Ok(()) => Ok(()),
-        Err(_) => Err(NoMemory),
-    }
+    Ok(found.sort_by(|a, b| precedence(a, b))?)
 }
 
 // Gives the actions of candidates.
@@ -111,9 +105,7 @@ fn actions(alloc: Global, found: &[Found<'_>]) -> Result<Vec<Action>, NoMemory>
 {
     let mut actions = Vec::new(alloc);
     for candidate in found {
-        if actions.push(candidate.action()?).is_err() {
-            return Err(NoMemory);
-        }
+        actions.push(candidate.action()?)?;
     }
     Ok(actions)
 }

@@ -101,15 +101,13 @@ impl<'a> Found<'a> {
     pub(crate) fn action(&self) -> Result<Action, NoMemory>
         ensures { IfOk result (λ action. action ≡ self.now.action) }
     {
-        match self.key.copy() {
-            Ok(key) => Ok(Action {
-                kind: self.kind,
-                key,
-                target: self.target,
-                rule: self.rule,
-                since: self.since,
-            }),
-            Err(_) => Err(NoMemory),
-        }
+        let key = self.key.copy()?;
+        Ok(Action {
+            kind: self.kind,
+            key,
+            target: self.target,
+            rule: self.rule,
+            since: self.since,
+        })
     }
 }

@@ -1,8 +1,10 @@
 // The enabled rules of a configuration, in the order of their prefixes.
-ghost use Rattle.std.specs.Prelude.{◌≡◌, ◌≤◌, ◌<◌, ◌+◌, ◌∷◌, ◌++◌, [], ℕ, length, OnOk, IfOk, if◌then◌else◌, slice_index_or};
+ghost use Rattle.std.specs.Prelude.{◌≡◌, ◌≤◌, ◌<◌, ◌+◌, ◌∷◌, ◌++◌, [], ℕ, length};
+ghost use Rattle.std.specs.Prelude.{OnOk, IfOk, if◌then◌else◌, slice_index_or};
 ghost use Rattle.std.specs.List.Sorted.{IsPermutation};
 ghost use Rattle.office_base.specs.Maps.{bytes_cmp};
-ghost use Rattle.due_index.specs.Table.{prefix_at, is_enabled, AreEnabled, IsByPrefix, IsNotBelow, NoneBegins, IsLinked, IsTable};
+ghost use Rattle.due_index.specs.Table.{prefix_at, is_enabled, AreEnabled, IsByPrefix};
+ghost use Rattle.due_index.specs.Table.{IsNotBelow, NoneBegins, IsLinked, IsTable};
 
 use office_base::NoMemory;
 use rules_core::Rule;
@@ -48,10 +50,7 @@ fn take_up(order: &mut Vec<usize>, rule: &Rule, place: usize) -> Result<(), NoMe
     if !rule.enabled {
         return Ok(());
     }
-    match order.push(place) {
-        Ok(()) => Ok(()),
-        Err(_) => Err(NoMemory),
-    }
+    Ok(order.push(place)?)
 }
 
 // Gives the places of the enabled rules.
@@ -77,10 +76,7 @@ fn sort(rules: &[Rule], order: &mut Vec<usize>) -> Result<(), NoMemory>
     ensures same { IsPermutation order.old.items order.new.items }
     ensures by_prefix { OnOk result (IsByPrefix rules.now order.new.items) }
 {
-    match order.sort_by(|a, b| compare(rules, *a, *b)) {
-        Ok(()) => Ok(()),
-        Err(_) => Err(NoMemory),
-    }
+    Ok(order.sort_by(|a, b| compare(rules, *a, *b))?)
 }
 
 // Finds the nearest place up to this one, from 1, whose prefix begins the text; 0 if there is none.
@@ -112,9 +108,7 @@ fn parents_of(alloc: Global, rules: &[Rule], order: &[usize]) -> Result<Vec<usiz
     let mut parents = Vec::new(alloc);
     for i in 0..order.len() {
         let parent = climb(rules, order, &parents, i, prefix_at(rules, order[i]));
-        if parents.push(parent).is_err() {
-            return Err(NoMemory);
-        }
+        parents.push(parent)?;
     }
     Ok(parents)
 }

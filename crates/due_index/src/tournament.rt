@@ -82,7 +82,11 @@ fn leaf(slots: &[Option<Candidate>], slot: usize) -> Node
 }
 
 // The one of two nodes whose action comes first.
-#[tactic(auto, using(crate::proofs::Orders::less_orders, crate::proofs::Orders::sooner_itself, crate::proofs::Orders::sooner_back))]
+#[tactic(auto, using(
+    crate::proofs::Orders::less_orders,
+    crate::proofs::Orders::sooner_itself,
+    crate::proofs::Orders::sooner_back,
+))]
 fn earlier(slots: &[Option<Candidate>], a: Node, b: Node) -> Node
     requires a { IsExact slots.now a }
     requires b { IsExact slots.now b }
@@ -127,9 +131,7 @@ pub(crate) fn tournament(
     requires fits { length slots.now ≤ half }
     ensures { IfOk result (λ nodes. IsTournament slots.now nodes.items × (length nodes.items ≡ 2 * half)) }
 {
-    let Ok(mut nodes) = leaves(alloc, slots, half) else {
-        return Err(NoMemory);
-    };
+    let mut nodes = leaves(alloc, slots, half)?;
     play(slots, &mut nodes, half);
     Ok(nodes)
 }

@@ -59,10 +59,7 @@ fn put(alloc: Global, total: usize, bytes: &[u8]) -> Result<(Command, &[u8]), En
     let (bucket, rest) = name_of(alloc, total, bytes)?;
     let (key, rest) = key_of(alloc, total, rest)?;
     // A `?` would move a `Size` beside a borrow, which has no rule in the check.
-    let (size, rest) = match size_of(total, rest) {
-        Ok(read) => read,
-        Err(e) => return Err(e),
-    };
+    let (size, rest) = size_of(total, rest)?;
     let (class, rest) = class_of(total, rest)?;
     let (tags, rest) = tags_of(alloc, total, rest)?;
     Ok((
@@ -92,10 +89,7 @@ fn delete_version(alloc: Global, total: usize, bytes: &[u8]) -> Result<(Command,
 {
     let (bucket, rest) = name_of(alloc, total, bytes)?;
     let (key, rest) = key_of(alloc, total, rest)?;
-    let (id, rest) = match id_of(total, rest) {
-        Ok(read) => read,
-        Err(e) => return Err(e),
-    };
+    let (id, rest) = id_of(total, rest)?;
     Ok((Command::DeleteVersion { bucket, key, id }, rest))
 }
 
@@ -105,10 +99,7 @@ fn set_tags(alloc: Global, total: usize, bytes: &[u8]) -> Result<(Command, &[u8]
 {
     let (bucket, rest) = name_of(alloc, total, bytes)?;
     let (key, rest) = key_of(alloc, total, rest)?;
-    let (id, rest) = match id_of(total, rest) {
-        Ok(read) => read,
-        Err(e) => return Err(e),
-    };
+    let (id, rest) = id_of(total, rest)?;
     let (tags, rest) = tags_of(alloc, total, rest)?;
     Ok((
         Command::SetTags {
@@ -189,10 +180,7 @@ fn boxed(alloc: Global, tariff: Tariff) -> Result<BoxedTariff, EntryFault>
     ensures ok { IfOk result (λ boxed. boxed ≡ tariff) }
     ensures err { IfErr result (λ e. e ≡ NoMemory) }
 {
-    match BoxedTariff::new(alloc, tariff) {
-        Ok(boxed) => Ok(boxed),
-        Err(_) => Err(EntryFault::NoMemory),
-    }
+    Ok(BoxedTariff::new(alloc, tariff)?)
 }
 
 // The prices of storage, and then those of moves.
@@ -205,14 +193,8 @@ fn plain_tariff(
 {
     let mut storage = [0; 6];
     let mut transition = [0; 5];
-    let rest = match prices_of(total, bytes, &mut storage) {
-        Ok(rest) => rest,
-        Err(e) => return Err(e),
-    };
-    let rest = match prices_of(total, rest, &mut transition) {
-        Ok(rest) => rest,
-        Err(e) => return Err(e),
-    };
+    let rest = prices_of(total, bytes, &mut storage)?;
+    let rest = prices_of(total, rest, &mut transition)?;
     match Tariff::of(storage, transition) {
         Some(tariff) => Ok((boxed(alloc, tariff)?, rest)),
         None => Err(fault_at(total, bytes)),
@@ -236,24 +218,12 @@ fn tiered_tariff(
 ) -> Result<(BoxedTariff, &[u8]), EntryFault>
     ensures { EntryGives (λ x. (command.SetTariff x.0, x.1.now)) result (kind_at Kind.SetTiers total bytes.now) }
 {
-    let (year, rest) = match read_year(total, bytes) {
-        Ok(read) => read,
-        Err(e) => return Err(e),
-    };
-    let (from, rest) = match read_month(total, year, rest) {
-        Ok(read) => read,
-        Err(e) => return Err(e),
-    };
+    let (year, rest) = read_year(total, bytes)?;
+    let (from, rest) = read_month(total, year, rest)?;
     let mut storage = [free(); 6];
-    let rest = match storage_of(total, rest, &mut storage) {
-        Ok(rest) => rest,
-        Err(e) => return Err(e),
-    };
+    let rest = storage_of(total, rest, &mut storage)?;
     let mut transition = [0; 5];
-    let rest = match prices_of(total, rest, &mut transition) {
-        Ok(rest) => rest,
-        Err(e) => return Err(e),
-    };
+    let rest = prices_of(total, rest, &mut transition)?;
     let tariff = Tariff {
         from,
         storage,
@@ -284,10 +254,8 @@ fn close(total: usize, bytes: &[u8]) -> Result<(Command, &[u8]), EntryFault>
     ensures { EntryGives (λ x. (x.0, x.1.now)) result (kind_at Kind.Close total bytes.now) }
 {
     let (year, rest) = read_year(total, bytes)?;
-    match read_month(total, year, rest) {
-        Ok((month, rest)) => Ok((Command::Close { month }, rest)),
-        Err(e) => Err(e),
-    }
+    let (month, rest) = read_month(total, year, rest)?;
+    Ok((Command::Close { month }, rest))
 }
 
 // The command of a kind.

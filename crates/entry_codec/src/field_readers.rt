@@ -49,10 +49,9 @@ pub(crate) fn name_of(
     let Some((name, rest)) = counted_in(bytes) else {
         return Err(fault_at(total, bytes));
     };
-    match name_in(alloc, name) {
-        Ok(Some(name)) => Ok((name, rest)),
-        Ok(None) => Err(fault_at(total, bytes)),
-        Err(_) => Err(EntryFault::NoMemory),
+    match name_in(alloc, name)? {
+        Some(name) => Ok((name, rest)),
+        None => Err(fault_at(total, bytes)),
     }
 }
 
@@ -119,10 +118,9 @@ pub(crate) fn tags_of(
 ) -> Result<(Tags, &[u8]), EntryFault>
     ensures { EntryGives (λ x. (x.0, x.1.now)) result (value_at (format field.Tags) total bytes.now) }
 {
-    match tags_in(alloc, bytes) {
-        Ok(Some(read)) => Ok(read),
-        Ok(None) => Err(fault_at(total, bytes)),
-        Err(_) => Err(EntryFault::NoMemory),
+    match tags_in(alloc, bytes)? {
+        Some(read) => Ok(read),
+        None => Err(fault_at(total, bytes)),
     }
 }
 
@@ -202,9 +200,8 @@ pub(crate) fn token_of(
     let Some((token, rest)) = short_counted_in(bytes) else {
         return Err(fault_at(total, bytes));
     };
-    match Token::read(alloc, token) {
-        Ok(Some(token)) => Ok((token, rest)),
-        Ok(None) => Err(fault_at(total, bytes)),
-        Err(_) => Err(EntryFault::NoMemory),
+    match Token::read(alloc, token)? {
+        Some(token) => Ok((token, rest)),
+        None => Err(fault_at(total, bytes)),
     }
 }

@@ -120,10 +120,8 @@ fn tag_in(alloc: Global, bytes: &[u8]) -> Result<Option<((String, String), &[u8]
     let Some((value, rest)) = text_in(rest) else {
         return Ok(None);
     };
-    match pair_of(alloc, key, value) {
-        Ok(pair) => Ok(Some((pair, rest))),
-        Err(_) => Err(NoMemory),
-    }
+    let pair = pair_of(alloc, key, value)?;
+    Ok(Some((pair, rest)))
 }
 
 fn pair_of(alloc: Global, key: &str, value: &str) -> Result<(String, String), AllocError>
@@ -149,9 +147,7 @@ fn pairs_in(
         let Some((pair, after)) = tag_in(alloc, rest)? else {
             return Ok(None);
         };
-        if pairs.push(pair).is_err() {
-            return Err(NoMemory);
-        }
+        pairs.push(pair)?;
         rest = after;
     }
     Ok(Some((pairs, rest)))

@@ -38,10 +38,7 @@ pub(crate) fn prices_of<'a>(
 {
     let mut rest = bytes;
     for i in 0..room.len() {
-        let (price, after) = match price_of(total, rest) {
-            Ok(read) => read,
-            Err(e) => return Err(e),
-        };
+        let (price, after) = price_of(total, rest)?;
         room[i] = price;
         rest = after;
     }

@@ -42,10 +42,8 @@ fn token_in(
     if !carried {
         return Ok((None, bytes));
     }
-    match token_of(alloc, total, bytes) {
-        Ok((token, rest)) => Ok((Some(token), rest)),
-        Err(e) => Err(e),
-    }
+    let (token, rest) = token_of(alloc, total, bytes)?;
+    Ok((Some(token), rest))
 }
 
 // A kind, the token after it, its fields, and no bytes after them.

@@ -30,10 +30,8 @@ fn is_text_of(alloc: Global, bytes: &[u8], rules: &RuleSet) -> Result<bool, NoMe
     ensures same { IfOk result (λ same. same ≡ bytes_eq bytes.now (printed rules.now)) }
     ensures kept { IsConfiguration rules.now }
 {
-    match text_of(alloc, rules) {
-        Ok(text) => Ok(bytes == text.as_bytes()),
-        Err(_) => Err(NoMemory),
-    }
+    let text = text_of(alloc, rules)?;
+    Ok(bytes == text.as_bytes())
 }
 
 /// Reads the configuration whose one text this is; `None` if there is none.
@@ -65,10 +63,9 @@ pub(crate) fn rules_of(
     let Some((text, rest)) = long_counted_in(bytes) else {
         return Err(fault_at(total, bytes));
     };
-    match rules_in(alloc, text) {
-        Ok(Some(rules)) => Ok((rules, rest)),
-        Ok(None) => Err(fault_at(total, bytes)),
-        Err(_) => Err(EntryFault::NoMemory),
+    match rules_in(alloc, text)? {
+        Some(rules) => Ok((rules, rest)),
+        None => Err(fault_at(total, bytes)),
     }
 }
 

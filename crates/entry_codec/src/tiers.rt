@@ -95,10 +95,7 @@ pub(crate) fn storage_of<'a>(
 {
     let mut rest = bytes;
     for i in 0..room.len() {
-        let (tiers, after) = match tiers_of(total, rest) {
-            Ok(read) => read,
-            Err(e) => return Err(e),
-        };
+        let (tiers, after) = tiers_of(total, rest)?;
         room[i] = tiers;
         rest = after;
     }

@@ -49,16 +49,10 @@ fn written(
         (λ bytes. bytes.items ≡ spelling (entry_with moment (option_copied token.entry) command.now)) }
     ensures fits { IfOk result (λ _. EntryFits (entry_with moment (option_copied token.entry) command.now)) }
 {
-    let Ok(mut out) = Vec::with_capacity(alloc, USUAL_BYTES) else {
-        return Err(NoMemory);
-    };
-    if out.extend_from_slice(&moment.ms().to_be_bytes()).is_err() {
-        return Err(NoMemory);
-    }
-    match put_command(&mut out, token, command) {
-        Ok(()) => Ok(out),
-        Err(_) => Err(NoMemory),
-    }
+    let mut out = Vec::with_capacity(alloc, USUAL_BYTES)?;
+    out.extend_from_slice(&moment.ms().to_be_bytes())?;
+    put_command(&mut out, token, command)?;
+    Ok(out)
 }
 
 /// Writes the one spelling of the entry that a command has at a moment, with or without a token. Only a command that

@@ -1,5 +1,6 @@
 // A forecast over a copy of the office.
-ghost use Rattle.std.specs.Prelude.{◌≡◌, ◌↔◌, ◌+◌, ◌^◌, ◌<◌, ◌≤◌, ℕ, map, Some, None, Ok, Err, OnOk, IfOk, IfErr, IsTrue};
+ghost use Rattle.std.specs.Prelude.{◌≡◌, ◌↔◌, ◌+◌, ◌^◌, ◌<◌, ◌≤◌, ℕ, map, Some};
+ghost use Rattle.std.specs.Prelude.{None, Ok, Err, OnOk, IfOk, IfErr, IsTrue};
 ghost use Rattle.moments.specs.Months.{month_at};
 ghost use Rattle.class_rules.specs.Classes.{all_classes};
 ghost use Rattle.office_base.specs.Maps.{at_name};
@@ -89,25 +90,17 @@ impl Forecast {
         if u.ms() < t.ms() {
             return Err(ForecastFault::PastDay { t });
         }
-        let Ok(name) = bucket.copy() else {
-            return Err(ForecastFault::NoMemory);
-        };
-        let Ok(act) = act_on(bucket) else {
-            return Err(ForecastFault::NoMemory);
-        };
-        let Ok(mut copy) = office.copy() else {
-            return Err(ForecastFault::NoMemory);
-        };
-        match set_rules(&mut copy, t, bucket, rules) {
-            Ok(()) => Ok(Forecast {
-                office: copy,
-                bucket: name,
-                act,
-                first: month_of(t),
-                until: u,
-            }),
-            Err(fault) => Err(fault),
-        }
+        let name = bucket.copy()?;
+        let act = act_on(bucket)?;
+        let mut copy = office.copy()?;
+        set_rules(&mut copy, t, bucket, rules)?;
+        Ok(Forecast {
+            office: copy,
+            bucket: name,
+            act,
+            first: month_of(t),
+            until: u,
+        })
     }
 
     /// Does the bucket's next lifecycle action that is due by the day, and returns its reply; `None` if none is left.
@@ -201,9 +194,7 @@ fn set_rules(
         → (step_with t None (Command.SetRules bucket.now rules) p).1 ≡ Err refusal }
     ensures fault { IfErr result (λ fault. IsOfOffice fault) }
 {
-    let Ok(bucket) = bucket.copy() else {
-        return Err(ForecastFault::NoMemory);
-    };
+    let bucket = bucket.copy()?;
     match office.apply(t, None, &Command::SetRules { bucket, rules }) {
         Ok(_) => Ok(()),
         Err(refusal) => Err(fault_of(refusal)),
@@ -232,10 +223,8 @@ fn fault_of(refusal: Refusal) -> ForecastFault
 fn act_on(bucket: &BucketName) -> Result<Command, NoMemory>
     ensures { IfOk result (λ asked. asked ≡ Command.Act bucket.now) }
 {
-    match bucket.copy() {
-        Ok(bucket) => Ok(Command::Act { bucket }),
-        Err(_) => Err(NoMemory),
-    }
+    let bucket = bucket.copy()?;
+    Ok(Command::Act { bucket })
 }
 
 /// Reports whether this is the reply to an action that was done: each reply is, except `NothingDue`.

@@ -103,8 +103,5 @@ fn push_line(lines: &mut Vec<ForecastLine>, line: ForecastLine) -> Result<(), No
     if line.quantity == 0 {
         return Ok(());
     }
-    match lines.push(line) {
-        Ok(()) => Ok(()),
-        Err(_) => Err(NoMemory),
-    }
+    Ok(lines.push(line)?)
 }

@@ -23,10 +23,8 @@ fn joined(actions: Vec<u8>, lines: &[u8]) -> Result<Vec<u8>, NoMemory>
     ensures { IfOk result (λ text. text.items ≡ actions.items ++ 10 ∷ lines.now) }
 {
     let mut text = actions;
-    match put_behind(&mut text, lines) {
-        Ok(()) => Ok(text),
-        Err(_) => Err(NoMemory),
-    }
+    put_behind(&mut text, lines)?;
+    Ok(text)
 }
 
 /// Does all actions of a forecast, and prints it: a table of the actions, an empty line, and a table of what the months

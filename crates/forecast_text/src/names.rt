@@ -66,10 +66,7 @@ fn target_text(alloc: Global, target: Target) -> Result<Vec<u8>, AllocError>
 pub(crate) fn item_text(alloc: Global, target: Target) -> Result<Vec<u8>, NoMemory>
     ensures { IfOk result (λ text. text.items ≡ item_text target) }
 {
-    match target_text(alloc, target) {
-        Ok(text) => Ok(text),
-        Err(_) => Err(NoMemory),
-    }
+    Ok(target_text(alloc, target)?)
 }
 
 pub(crate) fn line_name(kind: LineKind) -> &'static str

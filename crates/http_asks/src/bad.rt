@@ -9,6 +9,7 @@ ghost use Rattle.tariff.specs.Faults.{tariff_flaw_of};
 use http_bodies::BodyFault;
 use http_wire::FramingRefusal;
 use rules_json::RulesFault;
+use std::alloc::AllocError;
 use tariff::TariffFault;
 
 /// Refusals that the text of a message alone decides. Running out of memory is never heard as one of them.
@@ -51,6 +52,17 @@ pub(crate) enum Fault {
     Bad(Bad),
     /// Memory ran out.
     NoMemory,
+}
+
+impl From<AllocError> for Fault {
+    ghost use Rattle.std.specs.Prelude.{◌≡◌};
+    ghost use Rattle.http_asks.specs.declared.bad.Fault.TheVariants.{NoMemory};
+
+    ghost from_gives = { λ _ e. e ≡ NoMemory };
+
+    fn from(_error: AllocError) -> Fault {
+        Fault::NoMemory
+    }
 }
 
 impl From<BodyFault> for Fault {

@@ -15,10 +15,8 @@ fn set_tariff_ask(alloc: Global, body: &[u8]) -> Result<Ask, Fault>
     ensures { IsMeaning result (set_tariff_meant body.now) }
 {
     let tariff = tariff_body(alloc, body)?;
-    match BoxedTariff::new(alloc, tariff) {
-        Ok(tariff) => Ok(Ask::Command(Command::SetTariff { tariff })),
-        Err(_) => Err(Fault::NoMemory),
-    }
+    let tariff = BoxedTariff::new(alloc, tariff)?;
+    Ok(Ask::Command(Command::SetTariff { tariff }))
 }
 
 #[tactic(auto, unfolding(crate::specs::Meaning::tariff_meant))]

@@ -22,16 +22,15 @@ fn read_body(alloc: Global, bytes: &[u8]) -> Result<Value, BodyFault>
     if bytes.is_empty() {
         return Ok(Value::Object(Map::new(alloc)));
     }
-    match read_json(alloc, bytes) {
-        Ok(Some(value)) => {
+    match read_json(alloc, bytes)? {
+        Some(value) => {
             if value.is_object() {
                 Ok(value)
             } else {
                 Err(bad_field(alloc, ""))
             }
         }
-        Ok(None) => Err(bad_field(alloc, "")),
-        Err(_) => Err(BodyFault::NoMemory),
+        None => Err(bad_field(alloc, "")),
     }
 }
 
@@ -150,10 +149,9 @@ fn text_pairs(alloc: Global, value: Value) -> Result<Option<Vec<(String, String)
 fn pairs_of(alloc: Global, value: Value, name: &str) -> Result<Vec<(String, String)>, BodyFault>
     ensures { BodySays (λ pairs. tags_of pairs.items) result (ok_or (text_pairs (view value)) (bad_body name.now)) }
 {
-    match text_pairs(alloc, value) {
-        Ok(Some(pairs)) => Ok(pairs),
-        Ok(None) => Err(bad_field(alloc, name)),
-        Err(_) => Err(BodyFault::NoMemory),
+    match text_pairs(alloc, value)? {
+        Some(pairs) => Ok(pairs),
+        None => Err(bad_field(alloc, name)),
     }
 }
 

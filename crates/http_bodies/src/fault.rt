@@ -2,7 +2,7 @@
 ghost use Rattle.std.specs.Prelude.{◌≡◌, IfSome};
 ghost use Rattle.http_bodies.specs.Flaws.{bad_body, body_flaw_of};
 
-use std::alloc::Global;
+use std::alloc::{AllocError, Global};
 
 /// Why a body was not read.
 #[derive(PartialEq, Debug, Drop)]
@@ -18,6 +18,17 @@ pub enum BodyFault {
     BadTags,
     /// Memory ran out.
     NoMemory,
+}
+
+impl From<AllocError> for BodyFault {
+    ghost use Rattle.std.specs.Prelude.{◌≡◌};
+    ghost use Rattle.http_bodies.specs.declared.fault.BodyFault.TheVariants.{NoMemory};
+
+    ghost from_gives = { λ _ e. e ≡ NoMemory };
+
+    fn from(_error: AllocError) -> BodyFault {
+        BodyFault::NoMemory
+    }
 }
 
 // The fault of a field.

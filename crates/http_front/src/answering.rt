@@ -126,10 +126,10 @@ fn say_fault<W: Replies>(out: &mut W, room: &mut [u8], fault: DeskFault) -> Resu
     ensures only_says { OnlySays W.Replies out.old out.new (IsErrOf result SessionEnd.WriteFault) }
 {
     match print_fault(room, &fault) {
-        Ok(size) => match say(out, &Bad::Desk(fault), &room[..size]) {
-            Ok(()) => go_on_after(fault),
-            Err(end) => Err(end),
-        },
+        Ok(size) => {
+            say(out, &Bad::Desk(fault), &room[..size])?;
+            go_on_after(fault)
+        }
         Err(_) => unreachable!(),
     }
 }

@@ -157,9 +157,7 @@ pub(crate) fn print_call(alloc: Global, fault: &DeskFault) -> Result<Vec<u8>, No
     ensures text { IfOk result (λ v. v.items ≡ fault_text fault.now) }
 {
     let size = put_fault(&mut [], fault);
-    let Ok(mut text) = vec![in alloc; 0u8; size] else {
-        return Err(NoMemory);
-    };
+    let mut text = vec![in alloc; 0u8; size]?;
     put_fault(text.as_mut_slice(), fault);
     Ok(text)
 }

@@ -22,8 +22,6 @@ pub fn read_key(alloc: Global, part: &[u8]) -> Result<Key, NameRefusal>
     ensures refusal { IfErr result (λ e. (e ≡ NameRefusal.BadKey) ⊎ (e ≡ NameRefusal.NoMemory)) }
 {
     let mut bytes = Vec::new(alloc);
-    if percent_decode(part).append_to(&mut bytes).is_err() {
-        return Err(NameRefusal::NoMemory);
-    }
+    percent_decode(part).append_to(&mut bytes)?;
     Key::read(alloc, &bytes)
 }

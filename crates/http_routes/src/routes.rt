@@ -155,10 +155,8 @@ impl Routes {
     ///
     /// `NoMemory`: memory ran out.
     pub fn new(alloc: Global) -> Result<Routes, NoMemory> {
-        match Table::new(alloc, &ROUTES) {
-            Ok(table) => Ok(Routes { table }),
-            Err(_) => Err(NoMemory),
-        }
+        let table = Table::new(alloc, &ROUTES)?;
+        Ok(Routes { table })
     }
 
     /// Finds where a target leads. Takes no memory.

@@ -174,9 +174,7 @@ fn print_parts(alloc: Global, answer: &Result<Reply, Refusal>) -> Result<Vec<u8>
 {
     let size = put_body(&mut [], 0, answer);
     let whole = put_sized(&mut [], answer, size);
-    let Ok(mut text) = vec![in alloc; 0u8; whole] else {
-        return Err(NoMemory);
-    };
+    let mut text = vec![in alloc; 0u8; whole]?;
     put_sized(text.as_mut_slice(), answer, size);
     Ok(text)
 }
@@ -186,9 +184,7 @@ fn print_text(alloc: Global, media: &str, body: &[u8]) -> Result<Vec<u8>, NoMemo
     ensures text { IfOk result (λ v. v.items ≡ head_with media.now 200 (length body.now) ++ body.now) }
 {
     let whole = put_text_reply(&mut [], media, body);
-    let Ok(mut text) = vec![in alloc; 0u8; whole] else {
-        return Err(NoMemory);
-    };
+    let mut text = vec![in alloc; 0u8; whole]?;
     put_text_reply(text.as_mut_slice(), media, body);
     Ok(text)
 }

@@ -55,18 +55,14 @@ impl Buffer {
         ensures bytes { IfOk result (λ buffer. buffer.bytes ≡ []) }
         ensures taken { IfOk result (λ buffer. buffer.taken ≡ 0) }
     {
-        let Ok(room) = vec![in alloc; 0u8; ROOM] else {
-            return Err(NoMemory);
-        };
-        match vec![in alloc; EMPTY_HEADER_SPAN; FIELDS] {
-            Ok(spans) => Ok(Buffer {
-                room,
-                len: 0,
-                taken: 0,
-                spans,
-            }),
-            Err(_) => Err(NoMemory),
-        }
+        let room = vec![in alloc; 0u8; ROOM]?;
+        let spans = vec![in alloc; EMPTY_HEADER_SPAN; FIELDS]?;
+        Ok(Buffer {
+            room,
+            len: 0,
+            taken: 0,
+            spans,
+        })
     }
 
     /// Reads the bytes that are held.
@@ -133,14 +129,10 @@ impl Buffer {
         ensures limit { self.new.taken ≤ take_limit }
     {
         let most = askable(ROOM - self.len, self.taken);
-        match read_on(source, &mut self.room, self.len, most) {
-            Ok(count) => {
-                self.len += count;
-                self.taken += count as u64;
-                Ok(count)
-            }
-            Err(e) => Err(e),
-        }
+        let count = read_on(source, &mut self.room, self.len, most)?;
+        self.len += count;
+        self.taken += count as u64;
+        Ok(count)
     }
 
     /// Takes further bytes into another room from an index on, and returns how many. 0 is the end.
@@ -162,13 +154,9 @@ impl Buffer {
         ensures limit { self.new.taken ≤ take_limit }
     {
         let most = askable(room.len() - at, self.taken);
-        match read_on(source, room, at, most) {
-            Ok(given) => {
-                self.taken += given as u64;
-                Ok(given)
-            }
-            Err(e) => Err(e),
-        }
+        let given = read_on(source, room, at, most)?;
+        self.taken += given as u64;
+        Ok(given)
     }
 }
 

@@ -1,5 +1,6 @@
 // The kept replies.
-ghost use Rattle.std.specs.Prelude.{◌≡◌, ◌⊎◌, ℕ, ◌<◌, ◌≤◌, ◌^◌, ◌+◌, [], ◌∷◌, ◌++◌, IsSome, IfSome, IfOk, OnOk, OnErr, Ok, Err, Some, None, length, drop, option_copied};
+ghost use Rattle.std.specs.Prelude.{◌≡◌, ◌⊎◌, ℕ, ◌<◌, ◌≤◌, ◌^◌, ◌+◌, [], ◌∷◌, ◌++◌, IsSome, IfSome};
+ghost use Rattle.std.specs.Prelude.{IfOk, OnOk, OnErr, Ok, Err, Some, None, length, drop, option_copied};
 ghost use Rattle.std.specs.List.{AllByRecursion};
 ghost use Rattle.std.specs.VecDeque.{deque_len, deque_capacity};
 ghost use Rattle.office_base.specs.Maps.{at_name, with_name};
@@ -191,16 +192,10 @@ impl KeptReplies {
 fn copies_of(token: &Token, command: &Command) -> Result<(Token, Token, Command), NoMemory>
     ensures { IfOk result (λ x. (x.0 ≡ token.now) × (x.1 ≡ token.now) × (x.2 ≡ command.now)) }
 {
-    let Ok(first) = token.copy() else {
-        return Err(NoMemory);
-    };
-    let Ok(second) = token.copy() else {
-        return Err(NoMemory);
-    };
-    match command.copy() {
-        Ok(command) => Ok((first, second, command)),
-        Err(_) => Err(NoMemory),
-    }
+    let first = token.copy()?;
+    let second = token.copy()?;
+    let command = command.copy()?;
+    Ok((first, second, command))
 }
 
 // Makes room for one more reply.
@@ -209,20 +204,15 @@ fn make_room(queue: &mut VecDeque<Kept>) -> Result<(), NoMemory>
     ensures room { OnOk result (deque_len queue.new < deque_capacity queue.new) }
     ensures still { deque_len queue.old < deque_capacity queue.old → deque_len queue.new < deque_capacity queue.new }
 {
-    match queue.reserve(1) {
-        Ok(()) => Ok(()),
-        Err(_) => Err(NoMemory),
-    }
+    Ok(queue.reserve(1)?)
 }
 
 fn put_number(numbers: &mut BTreeMap<Token, u64>, token: Token, number: u64) -> Result<(), NoMemory>
     ensures put { OnOk result (numbers.new.entries ≡ with_name token number numbers.old.entries) }
     ensures same { OnErr result (numbers.new.entries ≡ numbers.old.entries) }
 {
-    match numbers.insert(token, number) {
-        Ok(_) => Ok(()),
-        Err(_) => Err(NoMemory),
-    }
+    numbers.insert(token, number)?;
+    Ok(())
 }
 
 fn drop_number(numbers: &mut BTreeMap<Token, u64>, held: &Option<(Token, Command)>)
@@ -302,10 +292,8 @@ fn told_again(kept: &Kept, command: &Command) -> Result<Option<Reply>, Refusal>
             kind: kept.command.kind(),
         });
     }
-    match kept.reply() {
-        Ok(reply) => Ok(Some(reply)),
-        Err(_) => Err(Refusal::NoMemory),
-    }
+    let reply = kept.reply()?;
+    Ok(Some(reply))
 }
 
 // Drops the oldest reply, and its token.
@@ -331,9 +319,7 @@ fn take_up(
     ensures queue { OnOk result (queue.new.items ≡ queue.old.items ++ kept ∷ []) }
     ensures indexed { OnOk result (IsIndexed 0 numbers.new.entries queue.new.items) }
 {
-    let Ok(token) = kept.token.copy() else {
-        return Err(NoMemory);
-    };
+    let token = kept.token.copy()?;
     make_room(queue)?;
     put_number(numbers, token, queue.len() as u64)?;
     queue.push_back_reserved(kept);
@@ -371,11 +357,6 @@ fn push_copy(all: &mut Vec<Kept>, kept: &Kept) -> Result<(), NoMemory>
         (plain_replies all.new.items ≡ plain_replies all.old.items ++ plain_reply kept.now ∷ []) }
     ensures told { OnOk result (AllByRecursion IsTold all.old.items → AllByRecursion IsTold all.new.items) }
 {
-    let Ok(copy) = copy_of(kept) else {
-        return Err(NoMemory);
-    };
-    match all.push(copy) {
-        Ok(()) => Ok(()),
-        Err(_) => Err(NoMemory),
-    }
+    let copy = copy_of(kept)?;
+    Ok(all.push(copy)?)
 }

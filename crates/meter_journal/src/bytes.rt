@@ -96,8 +96,6 @@ pub fn frame(alloc: Global, bytes: &[u8], gate: u64) -> Result<Option<(Entry, u6
     if bytes[gate as usize] != OPEN {
         return Ok(None);
     }
-    match body_in(alloc, bytes, gate as usize) {
-        Ok(read) => Ok(Some(read)),
-        Err(e) => Err(e),
-    }
+    let read = body_in(alloc, bytes, gate as usize)?;
+    Ok(Some(read))
 }

@@ -91,10 +91,8 @@ pub(crate) fn look<D: Disk>(disk: &mut D) -> Result<u64, OpenFault>
     let Ok(end) = disk.length(FileNo::Journal) else {
         return Err(OpenFault::StoreFault);
     };
-    match check_head(disk, end) {
-        Ok(()) => Ok(end),
-        Err(e) => Err(e),
-    }
+    check_head(disk, end)?;
+    Ok(end)
 }
 
 /// Reads the whole journal file into memory, whatever it holds, and writes nothing.
@@ -111,9 +109,7 @@ pub fn read_all<D: Disk>(alloc: Global, disk: &mut D) -> Result<Vec<u8>, OpenFau
     let Ok(end) = disk.length(FileNo::Journal) else {
         return Err(OpenFault::StoreFault);
     };
-    let Ok(mut room) = vec![in alloc; 0u8; end as usize] else {
-        return Err(OpenFault::NoMemory);
-    };
+    let mut room = vec![in alloc; 0u8; end as usize]?;
     if disk
         .read_at(FileNo::Journal, 0, room.as_mut_slice())
         .is_err()

@@ -134,13 +134,9 @@ impl<D: Disk> Journal<D> {
         ensures limit { self.new.limit ≡ self.old.limit }
         ensures cause { HasStoreCause (D.fault_count self.old.disk) (D.fault_count self.new.disk) result }
     {
-        match look(&mut self.disk) {
-            Err(e) => Err(e),
-            Ok(end) => {
-                self.gate = from.unwrap_or(10);
-                Ok(end)
-            }
-        }
+        let end = look(&mut self.disk)?;
+        self.gate = from.unwrap_or(10);
+        Ok(end)
     }
 
     /// Reads the entry at the gate, or returns `None` if the gate is not open.
@@ -170,13 +166,12 @@ impl<D: Disk> Journal<D> {
         ensures advances { Advances result self.old.gate self.new.gate }
         ensures limit { self.new.limit ≡ self.old.limit }
     {
-        match frame_of(alloc, &mut self.disk, self.gate, end) {
-            Ok(Some((entry, gate))) => {
+        match frame_of(alloc, &mut self.disk, self.gate, end)? {
+            Some((entry, gate)) => {
                 self.gate = gate;
                 Ok(Some(entry))
             }
-            Ok(None) => Ok(None),
-            Err(e) => Err(e),
+            None => Ok(None),
         }
     }
 

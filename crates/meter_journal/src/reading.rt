@@ -53,9 +53,7 @@ fn entry_of<D: Disk>(
     ensures untouched { OnlyReads D.Disk disk.old disk.new }
     ensures cause { HasStoreCause (D.fault_count disk.old) (D.fault_count disk.new) result }
 {
-    let Ok(mut room) = vec![in alloc; 0u8; size as usize] else {
-        return Err(OpenFault::NoMemory);
-    };
+    let mut room = vec![in alloc; 0u8; size as usize]?;
     if disk
         .read_at(FileNo::Journal, gate + 5, room.as_mut_slice())
         .is_err()
@@ -124,10 +122,10 @@ pub(crate) fn frame_of<D: Disk>(
     }
     match byte_at(disk, gate) {
         Err(_) => Err(OpenFault::StoreFault),
-        Ok(OPEN) => match body_of(alloc, disk, gate, end) {
-            Ok(read) => Ok(Some(read)),
-            Err(e) => Err(e),
-        },
+        Ok(OPEN) => {
+            let read = body_of(alloc, disk, gate, end)?;
+            Ok(Some(read))
+        }
         Ok(_) => Ok(None),
     }
 }

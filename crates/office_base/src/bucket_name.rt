@@ -80,10 +80,8 @@ impl BucketName {
         if !is_name(text.as_bytes()) {
             return Err(NameRefusal::BadBucketName);
         }
-        match String::from_str(alloc, text) {
-            Ok(text) => Ok(BucketName { text }),
-            Err(_) => Err(NameRefusal::NoMemory),
-        }
+        let text = String::from_str(alloc, text)?;
+        Ok(BucketName { text })
     }
 
     /// Copies the name. Fails only if memory runs out.

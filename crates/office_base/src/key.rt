@@ -1,5 +1,6 @@
 // The key of an object.
-ghost use Rattle.std.specs.Prelude.{◌≡◌, ◌≤◌, ◌↔◌, ◌⊎◌, true, false, length, IfOk, IfErr, IfSome, IfNone, IsErrOf, Some, refl};
+ghost use Rattle.std.specs.Prelude.{◌≡◌, ◌≤◌, ◌↔◌, ◌⊎◌, true, false, length, IfOk};
+ghost use Rattle.std.specs.Prelude.{IfErr, IfSome, IfNone, IsErrOf, Some, refl};
 ghost use Rattle.std.specs.Ordering.{nat_cmp};
 ghost use Rattle.std.specs.Cmp.Lexicographic.{slice_cmp, nat_list_eq_equiv, nat_list_cmp_total, texts_ties, texts_po};
 ghost use Rattle.std.specs.Str.{bytes_eq, is_utf8};
@@ -59,10 +60,8 @@ impl Key {
         let Some(text) = key_text(bytes) else {
             return Err(NameRefusal::BadKey);
         };
-        match String::from_str(alloc, text) {
-            Ok(text) => Ok(Key { text }),
-            Err(_) => Err(NameRefusal::NoMemory),
-        }
+        let text = String::from_str(alloc, text)?;
+        Ok(Key { text })
     }
 
     /// Copies the key. Fails only if memory runs out.

@@ -180,10 +180,8 @@ impl Tags {
         if !is_valid(&pairs) {
             return Err(NameRefusal::BadTags);
         }
-        match in_order(alloc, pairs) {
-            Ok(pairs) => Ok(Tags { pairs }),
-            Err(_) => Err(NameRefusal::NoMemory),
-        }
+        let pairs = in_order(alloc, pairs)?;
+        Ok(Tags { pairs })
     }
 
     /// Copies the tags. Fails only if memory runs out.

@@ -14,7 +14,8 @@ ghost use Rattle.desk_core.specs.Opening.{Opens};
 ghost use Rattle.office_commands.specs.Lines.{IsBillExit};
 ghost use Rattle.office_commands.specs.Running.{journal_limit, around, IsPutOut, FailsToOpen};
 ghost use Rattle.office_commands.specs.Running.{SaysNoReply, NotesNothing};
-ghost use Rattle.office_commands.specs.Billing.{posting_words, receipt_line, billing, EndsBilling, TellsPosting, PostsLines, PostsReply};
+ghost use Rattle.office_commands.specs.Billing.{posting_words, receipt_line, billing};
+ghost use Rattle.office_commands.specs.Billing.{EndsBilling, TellsPosting, PostsLines, PostsReply};
 ghost use Rattle.office_commands.specs.Billing.{BillsBy, BillsMonth, Bills, MayBePosted, IsPostExit, IsPosted};
 
 use crate::end::{End, JOURNAL_LIMIT};

@@ -11,7 +11,7 @@ ghost use Rattle.office_commands.specs.Configuring.{IsWholeInput, IsTooLong, Say
 use http_wire::Source;
 use rules_core::{RuleFlaw, RuleSet};
 use rules_json::{RulesFault, read_rules};
-use std::alloc::Global;
+use std::alloc::{AllocError, Global};
 
 /// The most bytes of a configuration. Own rule: as many as the body of a message has at most.
 const MOST_BYTES: usize = 1_048_576;
@@ -29,27 +29,40 @@ pub enum ConfigurationFault {
     NoMemory,
 }
 
+impl From<AllocError> for ConfigurationFault {
+    ghost use Rattle.std.specs.Prelude.{◌≡◌};
+    ghost use Rattle.office_commands.specs.declared.configuration.ConfigurationFault.TheVariants.{NoMemory};
+
+    ghost from_gives = { λ _ e. e ≡ NoMemory };
+
+    fn from(_error: AllocError) -> ConfigurationFault {
+        ConfigurationFault::NoMemory
+    }
+}
+
 // Reads on, appends what was read to the bytes, and returns its length. 0 is the end.
 fn read_on<S: Source>(input: &mut S, bytes: &mut Vec<u8>) -> Result<usize, ConfigurationFault>
     ensures took { IfOk result (λ count. (given : List ℕ) × (length given ≡ count)
         × (bytes.new.items ≡ bytes.old.items ++ given) × Consumes (S.left input.old) (S.left input.new) given) }
     ensures at_end { result ≡ Ok 0 → IsAtEnd (S.left input.new) }
-    ensures faults { IfErr result (λ fault. (fault ≡ ConfigurationFault.ReadFault) ⊎ (fault ≡ ConfigurationFault.NoMemory)) }
+    ensures faults { IfErr result (λ fault. (fault ≡ ConfigurationFault.ReadFault)
+        ⊎ (fault ≡ ConfigurationFault.NoMemory)) }
     ensures only_reads { OnlyReads S.Source input.old input.new (result ≡ Err ConfigurationFault.ReadFault) }
 {
     let mut piece = [0; 1_024];
     match input.read(&mut piece) {
-        Ok(count) => match bytes.extend_from_slice(&piece[..count]) {
-            Ok(()) => Ok(count),
-            Err(_) => Err(ConfigurationFault::NoMemory),
-        },
+        Ok(count) => {
+            bytes.extend_from_slice(&piece[..count])?;
+            Ok(count)
+        }
         Err(_) => Err(ConfigurationFault::ReadFault),
     }
 }
 
 // Reads the input to its end, unless it has more bytes than a configuration may have.
 fn read_whole<S: Source>(alloc: Global, input: &mut S) -> Result<Vec<u8>, ConfigurationFault>
-    ensures whole { IfOk result (λ bytes. IsWholeInput (stream_ends (S.left input.old) (S.left input.new)) bytes.items) }
+    ensures whole { IfOk result (λ bytes.
+        IsWholeInput (stream_ends (S.left input.old) (S.left input.new)) bytes.items) }
     ensures too_long { result ≡ Err ConfigurationFault.TooLong
         → IsTooLong (stream_ends (S.left input.old) (S.left input.new)) }
     ensures faults { (fault : RulesFault) → result ≡ Err (ConfigurationFault.Refused fault) → ⊥ }
@@ -57,10 +70,8 @@ fn read_whole<S: Source>(alloc: Global, input: &mut S) -> Result<Vec<u8>, Config
 {
     let mut bytes = Vec::new(alloc);
     'taking: while bytes.len() <= MOST_BYTES {
-        match read_on(input, &mut bytes) {
-            Ok(0) => return Ok(bytes),
-            Ok(_) => {}
-            Err(fault) => return Err(fault),
+        if read_on(input, &mut bytes)? == 0 {
+            return Ok(bytes);
         }
     }
     Err(ConfigurationFault::TooLong)
@@ -96,10 +107,8 @@ pub(crate) fn read_configuration<S: Source>(
     ensures says { SaysRules (stream_ends (S.left input.old) (S.left input.new)) result }
     ensures only_reads { OnlyReads S.Source input.old input.new (result ≡ Err ConfigurationFault.ReadFault) }
 {
-    match read_whole(alloc, input) {
-        Ok(bytes) => rules_in(alloc, &bytes),
-        Err(fault) => Err(fault),
-    }
+    let bytes = read_whole(alloc, input)?;
+    rules_in(alloc, &bytes)
 }
 
 fn flaw_number(flaw: RuleFlaw) -> u64

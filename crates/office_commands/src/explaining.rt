@@ -34,10 +34,8 @@ fn table<D: Disk, R: Threads + Sync>(
     ensures untouched { OnlyReads D.Disk disk.old disk.new }
     ensures cause { HasStoreCause (D.fault_count disk.old) (D.fault_count disk.new) result }
 {
-    match read_all(alloc, disk) {
-        Ok(bytes) => explain(rt, alloc, &bytes, workers),
-        Err(fault) => Err(fault),
-    }
+    let bytes = read_all(alloc, disk)?;
+    explain(rt, alloc, &bytes, workers)
 }
 
 /// Does `explain`: reads the journal, and prints the table of its stays, made by up to this many threads.

@@ -17,7 +17,8 @@ ghost use Rattle.office_commands.specs.Lines.{IsForecastExit};
 ghost use Rattle.office_commands.specs.Running.{journal_limit, around, IsPutOut, RunsOut, FailsToOpen};
 ghost use Rattle.office_commands.specs.Running.{SaysNoReply, NotesNothing};
 ghost use Rattle.office_commands.specs.Forecasting.{proposal, IsForetoldExit, MayRefuse, MayFail, IsRefusalNumber};
-ghost use Rattle.office_commands.specs.Forecasting.{RefusesForecast, TellsFailure, TellsProposal, TellsFault, ForecastsBy};
+ghost use Rattle.office_commands.specs.Forecasting.{RefusesForecast, TellsFailure};
+ghost use Rattle.office_commands.specs.Forecasting.{TellsProposal, TellsFault, ForecastsBy};
 ghost use Rattle.office_commands.specs.Forecasting.{ForecastsBucket, Forecasts};
 
 use crate::configuration::{ConfigurationFault, fault_number, read_configuration};

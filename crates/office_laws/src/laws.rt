@@ -1,5 +1,6 @@
 // Laws of every office, as functions that do nothing.
-ghost use Rattle.std.specs.Prelude.{◌≡◌, ◌↔◌, ℕ, ◌<◌, ◌≤◌, ◌++◌, ◌∷◌, List, [], Option, Some, None, Ok, true, filter, is_none};
+ghost use Rattle.std.specs.Prelude.{◌≡◌, ◌↔◌, ℕ, ◌<◌, ◌≤◌, ◌++◌, ◌∷◌, List, []};
+ghost use Rattle.std.specs.Prelude.{Option, Some, None, Ok, true, filter, is_none};
 ghost use Rattle.std.specs.List.{AllByRecursion};
 ghost use Rattle.office_base.specs.Maps.{at_name, at_number};
 ghost use Rattle.office_base.specs.declared.version_id.VersionId.{VersionId};

@@ -38,9 +38,7 @@ impl Machine {
         if let Some(refusal) = due_before(&self.accounts, t, end)? {
             return Err(refusal);
         }
-        if self.closed.push((month, tariff)).is_err() {
-            return Err(Refusal::NoMemory);
-        }
+        self.closed.push((month, tariff))?;
         self.last = Some(t);
         self.first_month = Some(first_of(self.first_month, t));
         self.accepted += 1;
@@ -104,8 +102,5 @@ pub(crate) fn choice_of(account: &Account, t: Moment) -> Result<Option<Action>, 
     ensures exact { IfOk result (λ action. action ≡ choice account.now.bucket t) }
     ensures refusal { IfErr result (λ refusal. refusal ≡ Refusal.NoMemory) }
 {
-    match account.chosen(t) {
-        Ok(action) => Ok(action),
-        Err(_) => Err(Refusal::NoMemory),
-    }
+    Ok(account.chosen(t)?)
 }

@@ -127,8 +127,5 @@ pub(crate) fn copy_of(name: &BucketName) -> Result<BucketName, Refusal>
     ensures ok { IfOk result (λ copy. copy ≡ name.now) }
     ensures refusal { IfErr result (λ refusal. refusal ≡ Refusal.NoMemory) }
 {
-    match name.copy() {
-        Ok(copy) => Ok(copy),
-        Err(_) => Err(Refusal::NoMemory),
-    }
+    Ok(name.copy()?)
 }

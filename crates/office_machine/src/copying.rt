@@ -16,7 +16,8 @@ use std::collections::BTreeMap;
 impl Machine {
     /// Copies the records.
     pub(crate) fn copy(&self) -> Result<Machine, NoMemory>
-        ensures stands { IfOk result (λ copy. (p : plain.Office) → StandsForOffice self.now p → StandsForOffice copy p) }
+        ensures stands { IfOk result (λ copy. (p : plain.Office) → StandsForOffice self.now p
+            → StandsForOffice copy p) }
         ensures last { IfOk result (λ copy. copy.last ≡ self.now.last) }
         ensures accepted { IfOk result (λ copy. copy.accepted ≡ self.now.accepted) }
     {
@@ -52,9 +53,7 @@ fn put_copy(
 ) -> Result<(), NoMemory>
     ensures { OnOk result (HasCopyOf name.now account.now copies.old.entries copies.new.entries) }
 {
-    let Ok(name) = name.copy() else {
-        return Err(NoMemory);
-    };
+    let name = name.copy()?;
     let account = account.copy(alloc)?;
     put(copies, name, account)?;
     Ok(())

@@ -107,9 +107,13 @@ impl Machine {
     /// Cost: one search of the buckets.
     pub(crate) fn queued(&self, bucket: &BucketName) -> Option<u64>
         ensures exact { IfSome result (λ entries. AreQueuedIn entries (at_name bucket.now self.now.accounts)) }
+        ensures missing { at_name bucket.now self.now.accounts ≡ None → result ≡ None }
     {
         match self.accounts.get(bucket) {
-            Some(account) => account.queued(),
+            Some(account) => match account.queued() {
+                Ok(entries) => Some(entries),
+                Err(NoMemory) => None,
+            },
             None => None,
         }
     }

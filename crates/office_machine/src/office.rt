@@ -1,5 +1,6 @@
 // The office with the replies that it keeps, so that a command with a token is done once.
-ghost use Rattle.std.specs.Prelude.{◌≡◌, ◌⊎◌, ◌<◌, ℕ, List, true, Ok, Err, Some, None, IsTrue, IfOk, IfSome, option_copied};
+ghost use Rattle.std.specs.Prelude.{◌≡◌, ◌⊎◌, ◌<◌, ℕ, List, true, Ok, Err, Some};
+ghost use Rattle.std.specs.Prelude.{None, IsTrue, IfOk, IfSome, option_copied};
 ghost use Rattle.std.specs.Prelude.{is_some};
 ghost use Rattle.office_base.specs.Maps.{at_name, at_number};
 ghost use Rattle.std.specs.List.{AllByRecursion};
@@ -166,6 +167,7 @@ impl Office {
     /// Cost: one search of the buckets.
     pub fn queued(&self, bucket: &BucketName) -> Option<u64>
         ensures exact { IfSome result (λ entries. AreQueuedIn entries (at_name bucket.now self.now.records.accounts)) }
+        ensures missing { at_name bucket.now self.now.records.accounts ≡ None → result ≡ None }
     {
         self.machine.queued(bucket)
     }
@@ -256,9 +258,7 @@ impl Office {
         ensures accepted { self.new.records.accepted ≡ accepted_after result self.old.records.accepted }
         ensures fits { AnswerFits result }
     {
-        if self.kept.hold(token, command).is_err() {
-            return Err(Refusal::NoMemory);
-        }
+        self.kept.hold(token, command)?;
         match self.machine.apply(t, command) {
             Ok(reply) => {
                 if is_accepted(&reply) {

@@ -132,10 +132,10 @@ fn rules_of(bucket: &Bucket) -> Result<Reply, Refusal>
     ensures fits { AnswerFits result }
 {
     match &bucket.rules {
-        Some(rules) => match rules.copy() {
-            Ok(rules) => Ok(Reply::RulesShown { rules }),
-            Err(_) => Err(Refusal::NoMemory),
-        },
+        Some(rules) => {
+            let rules = rules.copy()?;
+            Ok(Reply::RulesShown { rules })
+        }
         None => Err(Refusal::NoRules),
     }
 }
@@ -158,10 +158,10 @@ fn upload_of(bucket: &Bucket, number: u64) -> Result<Reply, Refusal>
     ensures fits { AnswerFits result }
 {
     match bucket.uploads.get(&number) {
-        Some(upload) => match upload.copy() {
-            Ok(upload) => Ok(Reply::UploadShown { number, upload }),
-            Err(_) => Err(Refusal::NoMemory),
-        },
+        Some(upload) => {
+            let upload = upload.copy()?;
+            Ok(Reply::UploadShown { number, upload })
+        }
         None => Err(Refusal::NoSuchUpload),
     }
 }
@@ -198,10 +198,7 @@ fn id_of(alloc: Global, rules: &Option<RuleSet>, place: u32) -> Result<Text, Ref
     ensures short { IfOk result (λ id. char_count id ≤ 255) }
     ensures refusal { IfErr result (λ refusal. refusal ≡ Refusal.NoMemory) }
 {
-    match rule_id(alloc, rules, place) {
-        Ok(id) => Ok(id),
-        Err(_) => Err(Refusal::NoMemory),
-    }
+    Ok(rule_id(alloc, rules, place)?)
 }
 
 fn listed(alloc: Global, classes: &[ClassMeters; 6]) -> Result<Items<ClassMeters>, Refusal>
@@ -209,10 +206,8 @@ fn listed(alloc: Global, classes: &[ClassMeters; 6]) -> Result<Items<ClassMeters
     ensures refusal { IfErr result (λ refusal. refusal ≡ Refusal.NoMemory) }
 {
     let mut all = Vec::new(alloc);
-    match all.extend_from_slice(classes) {
-        Ok(()) => Ok(Items::of(all)),
-        Err(_) => Err(Refusal::NoMemory),
-    }
+    all.extend_from_slice(classes)?;
+    Ok(Items::of(all))
 }
 
 /// Reads what a bucket used in a month, from the warmest class to the coldest.

@@ -221,8 +221,5 @@ fn push_line(
         price: line.price,
         charge: line.charge,
     };
-    match lines.push(row) {
-        Ok(()) => Ok(()),
-        Err(_) => Err(Refusal::NoMemory),
-    }
+    Ok(lines.push(row)?)
 }

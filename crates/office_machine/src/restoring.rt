@@ -31,10 +31,8 @@ pub(crate) fn put(
 ) -> Result<(), NoMemory>
     ensures { OnOk result (accounts.new.entries ≡ with_name name account accounts.old.entries) }
 {
-    match accounts.insert(name, account) {
-        Ok(_) => Ok(()),
-        Err(_) => Err(NoMemory),
-    }
+    accounts.insert(name, account)?;
+    Ok(())
 }
 
 /// Makes the buckets of their parts.

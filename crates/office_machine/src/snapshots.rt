@@ -64,19 +64,13 @@ fn know_moment(last: &Option<Moment>)
 pub(crate) fn copy_tariffs(tariffs: &Vec<Tariff>) -> Result<Vec<Tariff>, NoMemory>
     ensures { IfOk result (λ all. all.items ≡ tariffs.now.items) }
 {
-    match tariffs.clone() {
-        Ok(all) => Ok(all),
-        Err(_) => Err(NoMemory),
-    }
+    Ok(tariffs.clone()?)
 }
 
 pub(crate) fn copy_closed(closed: &Vec<(Month, Tariff)>) -> Result<Vec<(Month, Tariff)>, NoMemory>
     ensures { IfOk result (λ all. all.items ≡ closed.now.items) }
 {
-    match closed.clone() {
-        Ok(all) => Ok(all),
-        Err(_) => Err(NoMemory),
-    }
+    Ok(closed.clone()?)
 }
 
 /// Lists the parts of the buckets.
@@ -97,19 +91,14 @@ fn parts_of(
 fn push_part(parts: &mut Vec<BucketPart>, part: BucketPart) -> Result<(), NoMemory>
     ensures { OnOk result (parts.new.items ≡ parts.old.items ++ part ∷ []) }
 {
-    match parts.push(part) {
-        Ok(()) => Ok(()),
-        Err(_) => Err(NoMemory),
-    }
+    Ok(parts.push(part)?)
 }
 
 /// Returns the part of a bucket.
 fn part_of(alloc: Global, name: &BucketName, account: &Account) -> Result<BucketPart, NoMemory>
     ensures { IfOk result (λ part. IsPartOf part (name.now, account.now)) }
 {
-    let Ok(name) = name.copy() else {
-        return Err(NoMemory);
-    };
+    let name = name.copy()?;
     let bucket = account.records(alloc)?;
     let sums = account.sums()?;
     Ok(BucketPart { name, bucket, sums })

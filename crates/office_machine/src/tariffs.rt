@@ -1,5 +1,6 @@
 // The tariffs that were set, by their first months.
-ghost use Rattle.std.specs.Prelude.{◌≡◌, ◌∷◌, [], ◌++◌, nat_lt, nat_le, filter, Some, None, OnOk, IfOk, IfErr, if◌then◌else◌};
+ghost use Rattle.std.specs.Prelude.{◌≡◌, ◌∷◌, [], ◌++◌, nat_lt, nat_le, filter};
+ghost use Rattle.std.specs.Prelude.{Some, None, OnOk, IfOk, IfErr, if◌then◌else◌};
 ghost use Rattle.plain_office.specs.Charges.{in_force};
 ghost use Rattle.plain_office.specs.Step.{with_tariff};
 ghost use Rattle.office_machine.specs.AnswerParts.{latest};
@@ -27,10 +28,7 @@ fn push(all: &mut Vec<Tariff>, tariff: &Tariff) -> Result<(), Refusal>
     ensures pushed { OnOk result (all.new.items ≡ all.old.items ++ tariff.now ∷ []) }
     ensures refusal { IfErr result (λ refusal. refusal ≡ Refusal.NoMemory) }
 {
-    match all.push(*tariff) {
-        Ok(()) => Ok(()),
-        Err(_) => Err(Refusal::NoMemory),
-    }
+    Ok(all.push(*tariff)?)
 }
 
 fn push_earlier(all: &mut Vec<Tariff>, others: &[Tariff], month: Month) -> Result<(), Refusal>
@@ -118,8 +116,6 @@ pub(crate) fn copy_of_all(alloc: Global, tariffs: &[Tariff]) -> Result<Vec<Tarif
     ensures refusal { IfErr result (λ refusal. refusal ≡ Refusal.NoMemory) }
 {
     let mut all = Vec::new(alloc);
-    match all.extend_from_slice(tariffs) {
-        Ok(()) => Ok(all),
-        Err(_) => Err(Refusal::NoMemory),
-    }
+    all.extend_from_slice(tariffs)?;
+    Ok(all)
 }

@@ -23,8 +23,8 @@ use std::alloc::Global;
 use std::thread::Threads;
 
 // States that on a sound disk what is read has a history, and that the disk stays sound and has the same images while
-// nobody writes. It does nothing. A disk is sound if in each image that a crash may leave of its three files the journal
-// has a history, and each slot that decodes fits it.
+// nobody writes. It does nothing. A disk is sound if in each image that a crash may leave of its three files the
+// journal has a history, and each slot that decodes fits it.
 pub(crate) fn sound_now<D: Disk>(disk: &D)
     ensures reads { IsTrue D.honest → IsSound (D.state disk.now) → (history : List Entry)
         × HasAcceptedHistory history (D.state disk.now).journal.seen }

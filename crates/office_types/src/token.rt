@@ -63,10 +63,8 @@ impl Token {
         if !in_range(bytes) {
             return Ok(None);
         }
-        match bytes.to_vec(alloc) {
-            Ok(bytes) => Ok(Some(Token { bytes })),
-            Err(_) => Err(NoMemory),
-        }
+        let bytes = bytes.to_vec(alloc)?;
+        Ok(Some(Token { bytes }))
     }
 
     /// Copies the token. Fails only if memory runs out.

@@ -52,7 +52,7 @@ fn is_free(versioning: Versioning, number: u64, stack: &Stack) -> bool
     match versioning {
         Versioning::Unversioned => true,
         Versioning::Enabled => match Nth::of(number) {
-            Some(number) => !stack.has(VersionId::Number(number)),
+            Some(number) => stack.version(VersionId::Number(number)).is_none(),
             None => false,
         },
         Versioning::Suspended => true,

@@ -124,10 +124,10 @@ fn count_text(alloc: Global, rules: &Option<RuleSet>) -> Result<u64, NoMemory>
     ensures { IfOk result (λ bytes. bytes ≡ rules_bytes rules.now) }
 {
     match rules {
-        Some(rules) => match print_rules(alloc, rules) {
-            Ok(text) => Ok(text.len() as u64),
-            Err(_) => Err(NoMemory),
-        },
+        Some(rules) => {
+            let text = print_rules(alloc, rules)?;
+            Ok(text.len() as u64)
+        }
         None => Ok(0),
     }
 }

@@ -27,9 +27,7 @@ fn is_kept(kept: &Kept) -> Result<bool, NoMemory>
     if !does_take_token(&kept.command) {
         return Ok(false);
     }
-    let Ok(reply) = kept.reply() else {
-        return Err(NoMemory);
-    };
+    let reply = kept.reply()?;
     Ok(kept.marker == marker_told(&reply) && kept.told == number_told(&reply))
 }
 

@@ -38,16 +38,11 @@ fn body_of<D: Disk, B: Body>(
     ensures untouched { OnlyReads D.Disk disk.old disk.new }
     ensures cause { HasSaveCause (D.fault_count disk.old) (D.fault_count disk.new) result }
 {
-    let Ok(mut room) = vec![in alloc; 0u8; size as usize] else {
-        return Err(SaveFault::NoMemory);
-    };
+    let mut room = vec![in alloc; 0u8; size as usize]?;
     if disk.read_at(file, 17, room.as_mut_slice()).is_err() {
         return Err(SaveFault::StoreFault);
     }
-    match B::read(alloc, &room) {
-        Ok(read) => Ok(read),
-        Err(_) => Err(SaveFault::NoMemory),
-    }
+    Ok(B::read(alloc, &room)?)
 }
 
 // Reads the slot with this head: what it keeps, with its position.
@@ -70,12 +65,9 @@ fn slot_of<D: Disk, B: Body>(
     if head.position < FIRST_GATE {
         return Ok(None);
     }
-    match body_of(alloc, disk, file, head.size) {
-        Err(fault) => Err(fault),
-        Ok(read) => match read {
-            Some(value) => Ok(Some((value, head.position))),
-            None => Ok(None),
-        },
+    match body_of(alloc, disk, file, head.size)? {
+        Some(value) => Ok(Some((value, head.position))),
+        None => Ok(None),
     }
 }
 
@@ -108,10 +100,7 @@ fn find_in_first<D: Disk, B: Body>(
     ensures untouched { OnlyReads D.Disk disk.old disk.new }
     ensures cause { HasSaveCause (D.fault_count disk.old) (D.fault_count disk.new) result }
 {
-    let read = match slot_of(alloc, disk, FileNo::Slot0, zero) {
-        Ok(read) => read,
-        Err(fault) => return Err(fault),
-    };
+    let read = slot_of(alloc, disk, FileNo::Slot0, zero)?;
     if let Some((value, position)) = read {
         return Ok(Some(Found {
             file: FileNo::Slot0,
@@ -119,16 +108,13 @@ fn find_in_first<D: Disk, B: Body>(
             value,
         }));
     }
-    match slot_of(alloc, disk, FileNo::Slot1, one) {
-        Err(fault) => Err(fault),
-        Ok(read) => match read {
-            Some((value, position)) => Ok(Some(Found {
-                file: FileNo::Slot1,
-                position,
-                value,
-            })),
-            None => Ok(None),
-        },
+    match slot_of(alloc, disk, FileNo::Slot1, one)? {
+        Some((value, position)) => Ok(Some(Found {
+            file: FileNo::Slot1,
+            position,
+            value,
+        })),
+        None => Ok(None),
     }
 }
 
@@ -148,10 +134,7 @@ fn find_in_second<D: Disk, B: Body>(
     ensures untouched { OnlyReads D.Disk disk.old disk.new }
     ensures cause { HasSaveCause (D.fault_count disk.old) (D.fault_count disk.new) result }
 {
-    let read = match slot_of(alloc, disk, FileNo::Slot1, one) {
-        Ok(read) => read,
-        Err(fault) => return Err(fault),
-    };
+    let read = slot_of(alloc, disk, FileNo::Slot1, one)?;
     if let Some((value, position)) = read {
         return Ok(Some(Found {
             file: FileNo::Slot1,
@@ -159,16 +142,13 @@ fn find_in_second<D: Disk, B: Body>(
             value,
         }));
     }
-    match slot_of(alloc, disk, FileNo::Slot0, zero) {
-        Err(fault) => Err(fault),
-        Ok(read) => match read {
-            Some((value, position)) => Ok(Some(Found {
-                file: FileNo::Slot0,
-                position,
-                value,
-            })),
-            None => Ok(None),
-        },
+    match slot_of(alloc, disk, FileNo::Slot0, zero)? {
+        Some((value, position)) => Ok(Some(Found {
+            file: FileNo::Slot0,
+            position,
+            value,
+        })),
+        None => Ok(None),
     }
 }
 
@@ -213,11 +193,8 @@ pub fn load<D: Disk, B: Body>(alloc: Global, disk: &mut D) -> Result<Option<(B, 
     ensures untouched { OnlyReads D.Disk disk.old disk.new }
     ensures cause { HasSaveCause (D.fault_count disk.old) (D.fault_count disk.new) result }
 {
-    match find(alloc, disk) {
-        Err(fault) => Err(fault),
-        Ok(found) => match found {
-            Some(found) => Ok(Some((found.value, found.position))),
-            None => Ok(None),
-        },
+    match find(alloc, disk)? {
+        Some(found) => Ok(Some((found.value, found.position))),
+        None => Ok(None),
     }
 }

@@ -24,14 +24,11 @@ fn spare_slot<D: Disk, B: Body>(alloc: Global, disk: &mut D) -> Result<FileNo, S
     ensures untouched { OnlyReads D.Disk disk.old disk.new }
     ensures cause { HasSaveCause (D.fault_count disk.old) (D.fault_count disk.new) result }
 {
-    match find::<D, B>(alloc, disk) {
-        Err(fault) => Err(fault),
-        Ok(found) => match found {
-            None => Ok(FileNo::Slot0),
-            Some(found) => match found.file {
-                FileNo::Slot0 => Ok(FileNo::Slot1),
-                _ => Ok(FileNo::Slot0),
-            },
+    match find::<D, B>(alloc, disk)? {
+        None => Ok(FileNo::Slot0),
+        Some(found) => match found.file {
+            FileNo::Slot0 => Ok(FileNo::Slot1),
+            _ => Ok(FileNo::Slot0),
         },
     }
 }
@@ -90,10 +87,7 @@ pub fn save<D: Disk, B: Body>(
 
     ensures cause { HasSaveCause (D.fault_count disk.old) (D.fault_count disk.new) result }
 {
-    let file = match spare_slot::<D, B>(alloc, disk) {
-        Ok(file) => file,
-        Err(fault) => return Err(fault),
-    };
+    let file = spare_slot::<D, B>(alloc, disk)?;
     if sync_slots(disk).is_err() {
         return Err(SaveFault::StoreFault);
     }

@@ -60,24 +60,19 @@ fn planned(key: &Key, ends: Vec<Item>, begins: Option<(Item, Lines)>, at: Moment
       at = at;
     })) }
 {
-    match key.copy() {
-        Ok(key) => Ok(Some(Booking {
-            key,
-            ends,
-            begins,
-            at,
-        })),
-        Err(_) => Err(NoMemory),
-    }
+    let key = key.copy()?;
+    Ok(Some(Booking {
+        key,
+        ends,
+        begins,
+        at,
+    }))
 }
 
 fn with(ends: &mut Vec<Item>, item: Item) -> Result<(), NoMemory>
     ensures { OnOk result (map item_of ends.new.items ≡ map item_of ends.old.items ++ item_of item ∷ []) }
 {
-    match ends.push(item) {
-        Ok(()) => Ok(()),
-        Err(_) => Err(NoMemory),
-    }
+    Ok(ends.push(item)?)
 }
 
 /// Returns the item of the bucket's next version.

@@ -12,7 +12,6 @@ ghost use Rattle.stay_explain.specs.Ledgers.{IsLedgerOf};
 use crate::ledger::Ledger;
 use crate::working::table_text;
 use meter_journal::{OpenFault, frame, made};
-use office_base::NoMemory;
 use office_types::Entry;
 use std::alloc::Global;
 use std::thread::Threads;
@@ -43,15 +42,12 @@ fn read(alloc: Global, journal: &[u8]) -> Result<Ledger, OpenFault>
     let mut ledger = Ledger::new(alloc);
     let mut gate = FIRST;
     'reading: loop {
-        match frame(alloc, journal, gate) {
-            Ok(Some((entry, next))) => {
-                if let Err(fault) = take(&mut ledger, alloc, entry, gate) {
-                    return Err(fault);
-                }
+        match frame(alloc, journal, gate)? {
+            Some((entry, next)) => {
+                take(&mut ledger, alloc, entry, gate)?;
                 gate = next;
             }
-            Ok(None) => return Ok(ledger),
-            Err(fault) => return Err(fault),
+            None => return Ok(ledger),
         }
     }
 }
@@ -77,12 +73,7 @@ pub fn explain<R: Threads + Sync>(
     // No disk is read.
     ensures no_disk { IsErrOf result OpenFault.StoreFault → ⊥ }
 {
-    if let Err(fault) = made(journal) {
-        return Err(fault);
-    }
+    made(journal)?;
     let ledger = read(alloc, journal)?;
-    match table_text(rt, alloc, ledger.tables(), workers) {
-        Ok(text) => Ok(text),
-        Err(NoMemory) => Err(OpenFault::NoMemory),
-    }
+    Ok(table_text(rt, alloc, ledger.tables(), workers)?)
 }

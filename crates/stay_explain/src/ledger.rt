@@ -43,13 +43,9 @@ fn open_table(
 ) -> Result<(), NoMemory>
     ensures { OnOk result (tables.new.entries ≡ with_name name.now [] tables.old.entries) }
 {
-    let Ok(kept) = name.copy() else {
-        return Err(NoMemory);
-    };
-    match tables.insert(kept, Stays::new(alloc)) {
-        Ok(_) => Ok(()),
-        Err(_) => Err(NoMemory),
-    }
+    let kept = name.copy()?;
+    tables.insert(kept, Stays::new(alloc))?;
+    Ok(())
 }
 
 fn book_in(
@@ -133,12 +129,8 @@ impl Ledger {
         if !is_in_order(self.office.last(), entry.moment) {
             return Err(OpenFault::Damaged { offset: gate });
         }
-        if let Err(fault) = entry_is_new(&self.office, entry, gate) {
-            return Err(fault);
-        }
-        let Ok(booking) = self.booking_of(alloc, entry) else {
-            return Err(OpenFault::NoMemory);
-        };
+        entry_is_new(&self.office, entry, gate)?;
+        let booking = self.booking_of(alloc, entry)?;
         let reply = match self
             .office
             .apply(entry.moment, entry.token.as_ref(), &entry.command)
@@ -146,12 +138,7 @@ impl Ledger {
             Ok(reply) => reply,
             Err(refusal) => return Err(entry_refused(refusal, gate)),
         };
-        if let Err(fault) = entry_taken(&reply, gate) {
-            return Err(fault);
-        }
-        match book(&mut self.tables, alloc, &entry.command, booking) {
-            Ok(()) => Ok(()),
-            Err(NoMemory) => Err(OpenFault::NoMemory),
-        }
+        entry_taken(&reply, gate)?;
+        Ok(book(&mut self.tables, alloc, &entry.command, booking)?)
     }
 }

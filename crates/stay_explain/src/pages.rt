@@ -102,10 +102,7 @@ impl<'a> Filling<'a> {
     {
         let tables = mem::replace(&mut self.tables, Vec::new(alloc));
         self.weight = 0;
-        match self.pages.push(Page::new(tables)) {
-            Ok(()) => Ok(()),
-            Err(_) => Err(NoMemory),
-        }
+        Ok(self.pages.push(Page::new(tables))?)
     }
 
     // Adds a table; on a new page if the one that is being filled has this weight.
@@ -116,10 +113,7 @@ impl<'a> Filling<'a> {
             self.end_page(alloc)?;
         }
         self.weight = self.weight.saturating_add(weight(table.rows));
-        match self.tables.push(table) {
-            Ok(()) => Ok(()),
-            Err(_) => Err(NoMemory),
-        }
+        Ok(self.tables.push(table)?)
     }
 
     // Returns the pages, with the one that is being filled.
@@ -131,10 +125,8 @@ impl<'a> Filling<'a> {
             tables,
             ..
         } = self;
-        match pages.push(Page::new(tables)) {
-            Ok(()) => Ok(pages),
-            Err(_) => Err(NoMemory),
-        }
+        pages.push(Page::new(tables))?;
+        Ok(pages)
     }
 }
 

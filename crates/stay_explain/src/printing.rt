@@ -154,9 +154,7 @@ fn put_stay(
     ensures bytes { OnOk result (bytes_written sheet.new ≡ append_known (bytes_written sheet.old)
         (flat_map (row_text default_writer) (stay_rows bucket.now (booked_of row.now)))) }
 {
-    let Ok(item) = item_text(alloc, row.owner.item) else {
-        return Err(NoMemory);
-    };
+    let item = item_text(alloc, row.owner.item)?;
     match row.to {
         Some(to) => put_lines(sheet, bucket, row, &item, &print_moment(to.ms())),
         None => put_lines(sheet, bucket, row, &item, b"open"),

@@ -38,13 +38,11 @@ impl Model for Stays {
 fn copy_of(owner: &Owner) -> Result<Owner, NoMemory>
     ensures { IfOk result (λ copy. copy ≡ owner.now) }
 {
-    match owner.key.copy() {
-        Ok(key) => Ok(Owner {
-            key,
-            item: owner.item,
-        }),
-        Err(_) => Err(NoMemory),
-    }
+    let key = owner.key.copy()?;
+    Ok(Owner {
+        key,
+        item: owner.item,
+    })
 }
 
 impl Stays {
@@ -82,21 +80,15 @@ impl Stays {
         ensures { OnOk result (self.new ≡ begin_stay owner.key (item_of owner.item) (lines_of lines) at self.old) }
     {
         let kept = copy_of(&owner)?;
-        if self.rows.reserve(1).is_err() {
-            return Err(NoMemory);
-        }
-        match self.places.insert(kept, self.rows.len()) {
-            Ok(_) => {
-                self.rows.push_reserved(Row {
-                    owner,
-                    lines,
-                    from: at,
-                    to: None,
-                });
-                Ok(())
-            }
-            Err(_) => Err(NoMemory),
-        }
+        self.rows.reserve(1)?;
+        self.places.insert(kept, self.rows.len())?;
+        self.rows.push_reserved(Row {
+            owner,
+            lines,
+            from: at,
+            to: None,
+        });
+        Ok(())
     }
 
     /// Books what an entry does: the ends in their order, and then what begins.

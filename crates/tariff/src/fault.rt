@@ -4,7 +4,7 @@ ghost use Rattle.tariff.specs.Faults.{TariffGives, unknown_field};
 ghost use Rattle.tariff.specs.Reading.{table_name};
 
 use class_rules::Class;
-use std::alloc::Global;
+use std::alloc::{AllocError, AllocFailed, Global};
 
 /// A table of a tariff.
 #[derive(Clone, Copy, Debug, PartialEq, Eq)]
@@ -64,12 +64,32 @@ pub enum TariffFault {
     NoMemory,
 }
 
+impl<T: Drop> From<AllocFailed<T>> for TariffFault {
+    ghost use Rattle.std.specs.Prelude.{◌≡◌};
+    ghost use Rattle.tariff.specs.declared.fault.TariffFault.TheVariants.{NoMemory};
+
+    ghost from_gives = { λ _ e. e ≡ NoMemory };
+
+    fn from(_error: AllocFailed<T>) -> TariffFault {
+        TariffFault::NoMemory
+    }
+}
+
+impl From<AllocError> for TariffFault {
+    ghost use Rattle.std.specs.Prelude.{◌≡◌};
+    ghost use Rattle.tariff.specs.declared.fault.TariffFault.TheVariants.{NoMemory};
+
+    ghost from_gives = { λ _ e. e ≡ NoMemory };
+
+    fn from(_error: AllocError) -> TariffFault {
+        TariffFault::NoMemory
+    }
+}
+
 // Refuses a name.
 pub(crate) fn unknown<T>(alloc: Global, name: &str) -> Result<T, TariffFault>
     ensures { TariffGives (λ x. x) result (Err (unknown_field name.now)) }
 {
-    match String::from_str(alloc, name) {
-        Ok(name) => Err(TariffFault::UnknownField { name }),
-        Err(_) => Err(TariffFault::NoMemory),
-    }
+    let name = String::from_str(alloc, name)?;
+    Err(TariffFault::UnknownField { name })
 }

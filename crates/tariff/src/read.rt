@@ -8,7 +8,8 @@ ghost use Rattle.class_rules.specs.Classes.{class_name};
 ghost use Rattle.tariff.specs.Faults.{TariffGives, not_toml};
 ghost use Rattle.tariff.specs.Prices.{one_tier};
 ghost use Rattle.tariff.specs.Reading.{document_of, table_name, classes_of, is_field, is_class_name, first_other};
-ghost use Rattle.tariff.specs.Reading.{with_fields, with_classes, from_name, from_of, month_said, price_of, price_in, each_of};
+ghost use Rattle.tariff.specs.Reading.{with_fields, with_classes, from_name, from_of};
+ghost use Rattle.tariff.specs.Reading.{month_said, price_of, price_in, each_of};
 ghost use Rattle.tariff.specs.Reading.{upto_of, end_said, is_tier_name, tier_by, tier_said, tiers_said, in_range};
 ghost use Rattle.tariff.specs.Reading.{tier_among, tiers_of, tiers_in, tariff_of};
 
@@ -326,9 +327,7 @@ fn tiers_said(alloc: Global, class: Class, elements: &[Value]) -> Result<Vec<Tie
         let Some(tier) = tier_said(element) else {
             return Err(TariffFault::BadTiers { class });
         };
-        if tiers.push(tier).is_err() {
-            return Err(TariffFault::NoMemory);
-        }
+        tiers.push(tier)?;
     }
     Ok(tiers)
 }

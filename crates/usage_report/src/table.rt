@@ -130,8 +130,6 @@ pub fn report_text(alloc: Global, lines: &[ReportLine]) -> Result<Vec<u8>, NoMem
     ensures { IfOk result (λ v. v.items ≡ report_text lines.now) }
 {
     let mut out = Vec::new(alloc);
-    match put_report(&mut out, lines) {
-        Ok(()) => Ok(out),
-        Err(_) => Err(NoMemory),
-    }
+    put_report(&mut out, lines)?;
+    Ok(out)
 }
