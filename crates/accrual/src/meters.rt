@@ -118,7 +118,10 @@ impl Meters {
         ensures stands { (book : Book) → AreTotalsOf self.old book → AreTotalsOf self.new book }
         ensures booked { self.new.booked ≡ self.old.booked }
     {
-        Ok(self.rows.reserve(from.number(), to.number())?)
+        match self.rows.reserve(from.number(), to.number()) {
+            Ok(()) => Ok(()),
+            Err(_) => Err(NoMemory),
+        }
     }
 
     /// Books the start of a stay with these lines. Takes no memory.

@@ -68,7 +68,9 @@ pub(crate) fn bills_of(alloc: Global, lines: &[ReportLine]) -> Result<Vec<Bill>,
             total: tally.total,
             lines: tally.lines,
         };
-        bills.push(bill)?;
+        if bills.push(bill).is_err() {
+            return Err(NoMemory);
+        }
     }
     Ok(bills)
 }

@@ -170,7 +170,9 @@ fn act_on(
     ensures fits { IfOk result (λ done. ReplyFits done.reply) }
     ensures index { IfSome index.new (λ index. StandsFor index bucket.new) }
 {
-    let rule = rule_id(alloc, &bucket.rules, action.rule)?;
+    let Ok(rule) = rule_id(alloc, &bucket.rules, action.rule) else {
+        return Err(Refusal::NoMemory);
+    };
     let marker = marker_made(action.kind, bucket);
     let counts = do_action(bucket, meters, alloc, t, &action, counts)?;
     renew_target(index, bucket, &action);

@@ -24,7 +24,10 @@ pub(crate) fn reserve(meters: &mut Meters, from: Moment, to: Moment) -> Result<(
     ensures booked { meters.new.booked ≡ meters.old.booked }
     ensures refusal { IfErr result (λ refusal. refusal ≡ Refusal.NoMemory) }
 {
-    Ok(meters.reserve(month_of(from), month_of(to))?)
+    match meters.reserve(month_of(from), month_of(to)) {
+        Ok(()) => Ok(()),
+        Err(NoMemory) => Err(Refusal::NoMemory),
+    }
 }
 
 /// Returns the lines of an object.

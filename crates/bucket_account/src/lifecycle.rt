@@ -80,7 +80,9 @@ pub(crate) fn set_rules(
 {
     let count = rules.rules().len() as u32;
     let counts = moved(counts, text_bytes, text_length(alloc, rules)?).within(&ADDED)?;
-    let kept = rules.copy()?;
+    let Ok(kept) = rules.copy() else {
+        return Err(Refusal::NoMemory);
+    };
     bucket.rules = Some(kept);
     bucket.rules_since = t;
     Ok(Done {

@@ -59,7 +59,9 @@ pub(crate) fn put(
     ensures few { IfOk result (IsFewMore counts) }
     ensures fits { IfOk result (λ done. ReplyFits done.reply) }
 {
-    let tags = tags.copy()?;
+    let Ok(tags) = tags.copy() else {
+        return Err(Refusal::NoMemory);
+    };
     let version = id_of(bucket.versioning, bucket.next_version);
     let kind = Kind::Object {
         size,

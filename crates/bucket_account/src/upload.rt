@@ -102,7 +102,9 @@ pub(crate) fn start_upload(
     let number = bucket.next_upload;
     let counts = counted(counts, key, tags)?;
     let upload = started(alloc, key, class, tags, t)?;
-    bucket.uploads.insert(number, upload)?;
+    if bucket.uploads.insert(number, upload).is_err() {
+        return Err(Refusal::NoMemory);
+    }
     bucket.next_upload = number + 1;
     Ok(Done {
         counts,

@@ -36,7 +36,9 @@ pub(crate) fn map_of<K: Ord + Drop, V: Drop>(
         if !is_past(&map, &key) {
             return Ok(None);
         }
-        map.insert(key, value)?;
+        if map.insert(key, value).is_err() {
+            return Err(NoMemory);
+        }
     }
     Ok(Some(map))
 }

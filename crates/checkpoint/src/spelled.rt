@@ -33,7 +33,9 @@ pub(crate) fn items_in<T: Spelled>(
         let Some((item, after)) = T::read(alloc, rest)? else {
             return Ok(None);
         };
-        items.push(item)?;
+        if items.push(item).is_err() {
+            return Err(NoMemory);
+        }
         rest = after;
     }
     Ok(Some((items, rest)))

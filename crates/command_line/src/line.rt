@@ -246,8 +246,10 @@ fn forecast(alloc: Global, given: &ArgMatches) -> Result<CommandLine, LineFault>
     let Some(day) = midnight(date) else {
         return Err(LineFault::NotALine);
     };
-    let bucket = bucket(alloc, name)?;
-    Ok(CommandLine::Forecast(ForecastAsked { bucket, day }))
+    match bucket(alloc, name) {
+        Ok(bucket) => Ok(CommandLine::Forecast(ForecastAsked { bucket, day })),
+        Err(fault) => Err(fault),
+    }
 }
 
 // What the words of `report` ask for.

@@ -176,7 +176,9 @@ impl<D: Disk + Drop, C: Clock + Drop> Desk<D, C> {
         ensures disk_later { D.fault_count self.old.disk ≤ D.fault_count self.new.disk }
     {
         let was_stale = self.engine.stale();
-        self.engine.refresh()?;
+        if let Err(fault) = self.engine.refresh() {
+            return Err(fault);
+        }
         let said = self.engine.answer_now(ask);
         self.engine.mark(was_stale, &said);
         said

@@ -46,13 +46,13 @@ fn beginning<D: Disk>(alloc: Global, disk: &mut D) -> Result<LoadedOffice, OpenF
             office: Office::new(alloc),
             from: None,
         }),
-        Ok(Some((snapshot, place))) => {
-            let office = Office::restore(alloc, snapshot)?;
-            Ok(LoadedOffice {
+        Ok(Some((snapshot, place))) => match Office::restore(alloc, snapshot) {
+            Err(_) => Err(OpenFault::NoMemory),
+            Ok(office) => Ok(LoadedOffice {
                 office,
                 from: Some(place),
-            })
-        }
+            }),
+        },
     }
 }
 
@@ -69,7 +69,9 @@ fn take(office: &mut Office, entry: Entry, gate: u64) -> Result<(), OpenFault>
     if !is_in_order(office.last(), entry.moment) {
         return Err(OpenFault::Damaged { offset: gate });
     }
-    entry_is_new(office, &entry, gate)?;
+    if let Err(fault) = entry_is_new(office, &entry, gate) {
+        return Err(fault);
+    }
     match office.apply(entry.moment, entry.token.as_ref(), &entry.command) {
         Ok(reply) => entry_taken(&reply, gate),
         Err(refusal) => Err(entry_refused(refusal, gate)),
@@ -96,10 +98,16 @@ fn replay<D: Disk>(
 {
     'reading: loop {
         let gate = journal.end();
-        let read = journal.next(alloc, end)?;
+        let read = match journal.next(alloc, end) {
+            Ok(read) => read,
+            Err(fault) => return Err(fault),
+        };
         match read {
             None => return Ok(()),
-            Some(entry) => take(office, entry, gate)?,
+            Some(entry) => match take(office, entry, gate) {
+                Ok(()) => {}
+                Err(fault) => return Err(fault),
+            },
         }
     }
 }

@@ -120,7 +120,10 @@ impl MemoryDisk {
         ensures each { IfOk result (λ images. GivesEach (file_in file (state_at self.now after)) images.items) }
     {
         let count = (after as usize).min(self.calls.len());
-        Ok(find_images(&self.calls[..count], file, self.alloc)?)
+        match find_images(&self.calls[..count], file, self.alloc) {
+            Ok(images) => Ok(images),
+            Err(_) => Err(NoMemory),
+        }
     }
 
     // The length of a file, in bytes. It is no call.

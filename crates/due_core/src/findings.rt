@@ -96,7 +96,10 @@ impl<'a> Findings<'a> {
 fn sort(found: &mut Vec<Found<'_>>) -> Result<(), NoMemory>
     ensures { IfOk result (λ _. IsInOrder found.old.items found.new.items) }
 {
-    Ok(found.sort_by(|a, b| precedence(a, b))?)
+    match found.sort_by(|a, b| precedence(a, b)) {
+        Ok(()) => Ok(()),
+        Err(_) => Err(NoMemory),
+    }
 }
 
 // Gives the actions of candidates.
@@ -105,7 +108,9 @@ fn actions(alloc: Global, found: &[Found<'_>]) -> Result<Vec<Action>, NoMemory>
 {
     let mut actions = Vec::new(alloc);
     for candidate in found {
-        actions.push(candidate.action()?)?;
+        if actions.push(candidate.action()?).is_err() {
+            return Err(NoMemory);
+        }
     }
     Ok(actions)
 }

@@ -76,7 +76,10 @@ fn sort(rules: &[Rule], order: &mut Vec<usize>) -> Result<(), NoMemory>
     ensures same { IsPermutation order.old.items order.new.items }
     ensures by_prefix { OnOk result (IsByPrefix rules.now order.new.items) }
 {
-    Ok(order.sort_by(|a, b| compare(rules, *a, *b))?)
+    match order.sort_by(|a, b| compare(rules, *a, *b)) {
+        Ok(()) => Ok(()),
+        Err(_) => Err(NoMemory),
+    }
 }
 
 // Finds the nearest place up to this one, from 1, whose prefix begins the text; 0 if there is none.
@@ -108,7 +111,9 @@ fn parents_of(alloc: Global, rules: &[Rule], order: &[usize]) -> Result<Vec<usiz
     let mut parents = Vec::new(alloc);
     for i in 0..order.len() {
         let parent = climb(rules, order, &parents, i, prefix_at(rules, order[i]));
-        parents.push(parent)?;
+        if parents.push(parent).is_err() {
+            return Err(NoMemory);
+        }
     }
     Ok(parents)
 }

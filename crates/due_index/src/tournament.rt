@@ -82,11 +82,7 @@ fn leaf(slots: &[Option<Candidate>], slot: usize) -> Node
 }
 
 // The one of two nodes whose action comes first.
-#[tactic(auto, using(
-    crate::proofs::Orders::less_orders,
-    crate::proofs::Orders::sooner_itself,
-    crate::proofs::Orders::sooner_back,
-))]
+#[tactic(auto, using(crate::proofs::Orders::less_orders, crate::proofs::Orders::sooner_itself, crate::proofs::Orders::sooner_back,))]
 fn earlier(slots: &[Option<Candidate>], a: Node, b: Node) -> Node
     requires a { IsExact slots.now a }
     requires b { IsExact slots.now b }

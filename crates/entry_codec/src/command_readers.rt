@@ -193,8 +193,14 @@ fn plain_tariff(
 {
     let mut storage = [0; 6];
     let mut transition = [0; 5];
-    let rest = prices_of(total, bytes, &mut storage)?;
-    let rest = prices_of(total, rest, &mut transition)?;
+    let rest = match prices_of(total, bytes, &mut storage) {
+        Ok(rest) => rest,
+        Err(e) => return Err(e),
+    };
+    let rest = match prices_of(total, rest, &mut transition) {
+        Ok(rest) => rest,
+        Err(e) => return Err(e),
+    };
     match Tariff::of(storage, transition) {
         Some(tariff) => Ok((boxed(alloc, tariff)?, rest)),
         None => Err(fault_at(total, bytes)),
@@ -218,12 +224,24 @@ fn tiered_tariff(
 ) -> Result<(BoxedTariff, &[u8]), EntryFault>
     ensures { EntryGives (λ x. (command.SetTariff x.0, x.1.now)) result (kind_at Kind.SetTiers total bytes.now) }
 {
-    let (year, rest) = read_year(total, bytes)?;
-    let (from, rest) = read_month(total, year, rest)?;
+    let (year, rest) = match read_year(total, bytes) {
+        Ok(read) => read,
+        Err(e) => return Err(e),
+    };
+    let (from, rest) = match read_month(total, year, rest) {
+        Ok(read) => read,
+        Err(e) => return Err(e),
+    };
     let mut storage = [free(); 6];
-    let rest = storage_of(total, rest, &mut storage)?;
+    let rest = match storage_of(total, rest, &mut storage) {
+        Ok(rest) => rest,
+        Err(e) => return Err(e),
+    };
     let mut transition = [0; 5];
-    let rest = prices_of(total, rest, &mut transition)?;
+    let rest = match prices_of(total, rest, &mut transition) {
+        Ok(rest) => rest,
+        Err(e) => return Err(e),
+    };
     let tariff = Tariff {
         from,
         storage,

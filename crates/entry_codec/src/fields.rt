@@ -147,7 +147,9 @@ fn pairs_in(
         let Some((pair, after)) = tag_in(alloc, rest)? else {
             return Ok(None);
         };
-        pairs.push(pair)?;
+        if pairs.push(pair).is_err() {
+            return Err(NoMemory);
+        }
         rest = after;
     }
     Ok(Some((pairs, rest)))

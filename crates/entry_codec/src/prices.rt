@@ -38,7 +38,10 @@ pub(crate) fn prices_of<'a>(
 {
     let mut rest = bytes;
     for i in 0..room.len() {
-        let (price, after) = price_of(total, rest)?;
+        let (price, after) = match price_of(total, rest) {
+            Ok(read) => read,
+            Err(e) => return Err(e),
+        };
         room[i] = price;
         rest = after;
     }

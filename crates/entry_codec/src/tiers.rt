@@ -95,7 +95,10 @@ pub(crate) fn storage_of<'a>(
 {
     let mut rest = bytes;
     for i in 0..room.len() {
-        let (tiers, after) = tiers_of(total, rest)?;
+        let (tiers, after) = match tiers_of(total, rest) {
+            Ok(read) => read,
+            Err(e) => return Err(e),
+        };
         room[i] = tiers;
         rest = after;
     }

@@ -1,6 +1,5 @@
 // Why there is no forecast.
 use moments::Moment;
-use office_base::NoMemory;
 use office_types::Refusal;
 use std::alloc::AllocError;
 
@@ -23,17 +22,6 @@ impl From<AllocError> for ForecastFault {
     ghost from_gives = { λ _ e. e ≡ NoMemory };
 
     fn from(_error: AllocError) -> ForecastFault {
-        ForecastFault::NoMemory
-    }
-}
-
-impl From<NoMemory> for ForecastFault {
-    ghost use Rattle.std.specs.Prelude.{◌≡◌};
-    ghost use Rattle.forecast.specs.declared.fault.ForecastFault.TheVariants.{NoMemory};
-
-    ghost from_gives = { λ _ e. e ≡ NoMemory };
-
-    fn from(_error: NoMemory) -> ForecastFault {
         ForecastFault::NoMemory
     }
 }

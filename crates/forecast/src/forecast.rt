@@ -90,17 +90,25 @@ impl Forecast {
         if u.ms() < t.ms() {
             return Err(ForecastFault::PastDay { t });
         }
-        let name = bucket.copy()?;
-        let act = act_on(bucket)?;
-        let mut copy = office.copy()?;
-        set_rules(&mut copy, t, bucket, rules)?;
-        Ok(Forecast {
-            office: copy,
-            bucket: name,
-            act,
-            first: month_of(t),
-            until: u,
-        })
+        let Ok(name) = bucket.copy() else {
+            return Err(ForecastFault::NoMemory);
+        };
+        let Ok(act) = act_on(bucket) else {
+            return Err(ForecastFault::NoMemory);
+        };
+        let Ok(mut copy) = office.copy() else {
+            return Err(ForecastFault::NoMemory);
+        };
+        match set_rules(&mut copy, t, bucket, rules) {
+            Ok(()) => Ok(Forecast {
+                office: copy,
+                bucket: name,
+                act,
+                first: month_of(t),
+                until: u,
+            }),
+            Err(fault) => Err(fault),
+        }
     }
 
     /// Does the bucket's next lifecycle action that is due by the day, and returns its reply; `None` if none is left.

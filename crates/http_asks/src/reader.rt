@@ -149,17 +149,20 @@ impl Reader {
         // This error is returned if and only if the source failed.
         ensures only_reads { OnlyReads R.Source source.old source.new (IsErrOf result MessageStop.ReadFault) }
     {
-        match read_message(alloc, source, &mut self.buffer)? {
-            Next::Request(message) => {
-                let heard = self.read(alloc, &message)?;
+        match read_message(alloc, source, &mut self.buffer) {
+            Ok(Next::Request(message)) => {
+                let Ok(heard) = self.read(alloc, &message) else {
+                    return Err(MessageStop::NoMemory);
+                };
                 self.buffer.drop_front(message.used());
                 Ok(heard)
             }
-            Next::Refused(bad) => Ok(Heard::Bad {
+            Ok(Next::Refused(bad)) => Ok(Heard::Bad {
                 bad: Bad::Framing(bad),
                 last: true,
             }),
-            Next::End => Ok(Heard::End),
+            Ok(Next::End) => Ok(Heard::End),
+            Err(stop) => Err(stop),
         }
     }
 }

@@ -281,7 +281,9 @@ fn print_refusal(alloc: Global, bad: &http_asks::Bad) -> Result<Vec<u8>, NoMemor
 {
     let size = put_body(&mut [], 0, bad);
     let whole = put_reply(&mut [], bad, size);
-    let mut text = vec![in alloc; 0u8; whole]?;
+    let Ok(mut text) = vec![in alloc; 0u8; whole] else {
+        return Err(NoMemory);
+    };
     put_reply(text.as_mut_slice(), bad, size);
     Ok(text)
 }

@@ -89,9 +89,10 @@ fn put_all<W: Write>(writer: &mut W, bytes: &[u8]) -> Result<(), Failed>
 {
     let mut done = 0;
     while done < bytes.len() {
-        match write_retrying(writer, &bytes[done..])? {
-            0 => return Err(Failed),
-            count => done += count,
+        match write_retrying(writer, &bytes[done..]) {
+            Ok(0) => return Err(Failed),
+            Ok(count) => done += count,
+            Err(e) => return Err(e),
         }
     }
     Ok(())

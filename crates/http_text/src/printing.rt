@@ -174,7 +174,9 @@ fn print_parts(alloc: Global, answer: &Result<Reply, Refusal>) -> Result<Vec<u8>
 {
     let size = put_body(&mut [], 0, answer);
     let whole = put_sized(&mut [], answer, size);
-    let mut text = vec![in alloc; 0u8; whole]?;
+    let Ok(mut text) = vec![in alloc; 0u8; whole] else {
+        return Err(NoMemory);
+    };
     put_sized(text.as_mut_slice(), answer, size);
     Ok(text)
 }

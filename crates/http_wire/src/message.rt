@@ -18,8 +18,7 @@ use crate::framing::FramingRefusal;
 use crate::reading::{Heading, read_head};
 use crate::source::Source;
 use httparse::spans::RequestSpans;
-use office_base::NoMemory;
-use std::alloc::{AllocError, Global};
+use std::alloc::Global;
 use std::marker::Model;
 
 /// A request whose head is at the front of the buffer.
@@ -113,28 +112,6 @@ pub enum MessageStop {
     NoMemory,
 }
 
-impl From<AllocError> for MessageStop {
-    ghost use Rattle.std.specs.Prelude.{◌≡◌};
-    ghost use Rattle.http_wire.specs.declared.message.MessageStop.TheVariants.{NoMemory};
-
-    ghost from_gives = { λ _ e. e ≡ NoMemory };
-
-    fn from(_error: AllocError) -> MessageStop {
-        MessageStop::NoMemory
-    }
-}
-
-impl From<NoMemory> for MessageStop {
-    ghost use Rattle.std.specs.Prelude.{◌≡◌};
-    ghost use Rattle.http_wire.specs.declared.message.MessageStop.TheVariants.{NoMemory};
-
-    ghost from_gives = { λ _ e. e ≡ NoMemory };
-
-    fn from(_error: NoMemory) -> MessageStop {
-        MessageStop::NoMemory
-    }
-}
-
 /// What a body that is not whole makes of its message.
 fn short_of(gap: Gap) -> Result<Next, MessageStop>
     ensures ended { gap ≡ Gap.Ended → result ≡ Ok (Next.Refused FramingRefusal.CutShort) }
@@ -198,7 +175,9 @@ fn read_apart<R: Source>(
     ensures only_reads { OnlyReads R.Source source.old source.new (IsErrOf result MessageStop.ReadFault) }
 {
     let used = buffer.held().len();
-    let mut body = vec![in alloc; 0u8; size]?;
+    let Ok(mut body) = vec![in alloc; 0u8; size] else {
+        return Err(MessageStop::NoMemory);
+    };
     match fill_body(source, buffer, &mut body, head.len) {
         Ok(()) => Ok(Next::Request(Message {
             head,

@@ -1,5 +1,4 @@
 // Why a journal is not opened or read.
-use office_base::NoMemory;
 use std::alloc::AllocError;
 
 /// Why a journal is not opened, made or read.
@@ -27,17 +26,6 @@ impl From<AllocError> for OpenFault {
     ghost from_gives = { λ _ e. e ≡ NoMemory };
 
     fn from(_error: AllocError) -> OpenFault {
-        OpenFault::NoMemory
-    }
-}
-
-impl From<NoMemory> for OpenFault {
-    ghost use Rattle.std.specs.Prelude.{◌≡◌};
-    ghost use Rattle.meter_journal.specs.declared.fault.OpenFault.TheVariants.{NoMemory};
-
-    ghost from_gives = { λ _ e. e ≡ NoMemory };
-
-    fn from(_error: NoMemory) -> OpenFault {
         OpenFault::NoMemory
     }
 }

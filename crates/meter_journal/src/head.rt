@@ -91,8 +91,10 @@ pub(crate) fn look<D: Disk>(disk: &mut D) -> Result<u64, OpenFault>
     let Ok(end) = disk.length(FileNo::Journal) else {
         return Err(OpenFault::StoreFault);
     };
-    check_head(disk, end)?;
-    Ok(end)
+    match check_head(disk, end) {
+        Ok(()) => Ok(end),
+        Err(e) => Err(e),
+    }
 }
 
 /// Reads the whole journal file into memory, whatever it holds, and writes nothing.

@@ -61,8 +61,7 @@ fn read_on<S: Source>(input: &mut S, bytes: &mut Vec<u8>) -> Result<usize, Confi
 
 // Reads the input to its end, unless it has more bytes than a configuration may have.
 fn read_whole<S: Source>(alloc: Global, input: &mut S) -> Result<Vec<u8>, ConfigurationFault>
-    ensures whole { IfOk result (λ bytes.
-        IsWholeInput (stream_ends (S.left input.old) (S.left input.new)) bytes.items) }
+    ensures whole { IfOk result (λ bytes. IsWholeInput (stream_ends (S.left input.old) (S.left input.new)) bytes.items) }
     ensures too_long { result ≡ Err ConfigurationFault.TooLong
         → IsTooLong (stream_ends (S.left input.old) (S.left input.new)) }
     ensures faults { (fault : RulesFault) → result ≡ Err (ConfigurationFault.Refused fault) → ⊥ }
@@ -70,8 +69,10 @@ fn read_whole<S: Source>(alloc: Global, input: &mut S) -> Result<Vec<u8>, Config
 {
     let mut bytes = Vec::new(alloc);
     'taking: while bytes.len() <= MOST_BYTES {
-        if read_on(input, &mut bytes)? == 0 {
-            return Ok(bytes);
+        match read_on(input, &mut bytes) {
+            Ok(0) => return Ok(bytes),
+            Ok(_) => {}
+            Err(fault) => return Err(fault),
         }
     }
     Err(ConfigurationFault::TooLong)

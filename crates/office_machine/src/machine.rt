@@ -1,5 +1,5 @@
 // The records of the office in memory.
-ghost use Rattle.std.specs.Prelude.{◌≡◌, ◌⊎◌, ◌<◌, ℕ, List, Ok, Err, IsTrue, option_copied, is_some, IfSome};
+ghost use Rattle.std.specs.Prelude.{◌≡◌, ◌⊎◌, ◌<◌, ℕ, List, Ok, Err, None, IsTrue, option_copied, is_some, IfSome};
 ghost use Rattle.office_base.specs.Maps.{at_name, at_number};
 ghost use Rattle.plain_office.specs.Office as plain;
 ghost use Rattle.plain_office.specs.Office.{empty_office};
@@ -15,7 +15,7 @@ ghost use Rattle.office_machine.specs.Standing.{StandsForOffice, Does, accepted_
 use crate::reports::closed_at;
 use bucket_account::{Account, Counts, NOTHING};
 use moments::{Moment, Month};
-use office_base::BucketName;
+use office_base::{BucketName, NoMemory};
 use office_types::{Command, Query, Refusal, Reply};
 use std::alloc::Global;
 use std::collections::BTreeMap;

@@ -258,7 +258,9 @@ impl Office {
         ensures accepted { self.new.records.accepted ≡ accepted_after result self.old.records.accepted }
         ensures fits { AnswerFits result }
     {
-        self.kept.hold(token, command)?;
+        if self.kept.hold(token, command).is_err() {
+            return Err(Refusal::NoMemory);
+        }
         match self.machine.apply(t, command) {
             Ok(reply) => {
                 if is_accepted(&reply) {

@@ -65,9 +65,12 @@ fn slot_of<D: Disk, B: Body>(
     if head.position < FIRST_GATE {
         return Ok(None);
     }
-    match body_of(alloc, disk, file, head.size)? {
-        Some(value) => Ok(Some((value, head.position))),
-        None => Ok(None),
+    match body_of(alloc, disk, file, head.size) {
+        Err(fault) => Err(fault),
+        Ok(read) => match read {
+            Some(value) => Ok(Some((value, head.position))),
+            None => Ok(None),
+        },
     }
 }
 
@@ -100,7 +103,10 @@ fn find_in_first<D: Disk, B: Body>(
     ensures untouched { OnlyReads D.Disk disk.old disk.new }
     ensures cause { HasSaveCause (D.fault_count disk.old) (D.fault_count disk.new) result }
 {
-    let read = slot_of(alloc, disk, FileNo::Slot0, zero)?;
+    let read = match slot_of(alloc, disk, FileNo::Slot0, zero) {
+        Ok(read) => read,
+        Err(fault) => return Err(fault),
+    };
     if let Some((value, position)) = read {
         return Ok(Some(Found {
             file: FileNo::Slot0,
@@ -108,13 +114,16 @@ fn find_in_first<D: Disk, B: Body>(
             value,
         }));
     }
-    match slot_of(alloc, disk, FileNo::Slot1, one)? {
-        Some((value, position)) => Ok(Some(Found {
-            file: FileNo::Slot1,
-            position,
-            value,
-        })),
-        None => Ok(None),
+    match slot_of(alloc, disk, FileNo::Slot1, one) {
+        Err(fault) => Err(fault),
+        Ok(read) => match read {
+            Some((value, position)) => Ok(Some(Found {
+                file: FileNo::Slot1,
+                position,
+                value,
+            })),
+            None => Ok(None),
+        },
     }
 }
 
@@ -134,7 +143,10 @@ fn find_in_second<D: Disk, B: Body>(
     ensures untouched { OnlyReads D.Disk disk.old disk.new }
     ensures cause { HasSaveCause (D.fault_count disk.old) (D.fault_count disk.new) result }
 {
-    let read = slot_of(alloc, disk, FileNo::Slot1, one)?;
+    let read = match slot_of(alloc, disk, FileNo::Slot1, one) {
+        Ok(read) => read,
+        Err(fault) => return Err(fault),
+    };
     if let Some((value, position)) = read {
         return Ok(Some(Found {
             file: FileNo::Slot1,
@@ -142,13 +154,16 @@ fn find_in_second<D: Disk, B: Body>(
             value,
         }));
     }
-    match slot_of(alloc, disk, FileNo::Slot0, zero)? {
-        Some((value, position)) => Ok(Some(Found {
-            file: FileNo::Slot0,
-            position,
-            value,
-        })),
-        None => Ok(None),
+    match slot_of(alloc, disk, FileNo::Slot0, zero) {
+        Err(fault) => Err(fault),
+        Ok(read) => match read {
+            Some((value, position)) => Ok(Some(Found {
+                file: FileNo::Slot0,
+                position,
+                value,
+            })),
+            None => Ok(None),
+        },
     }
 }
 

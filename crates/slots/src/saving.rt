@@ -24,11 +24,14 @@ fn spare_slot<D: Disk, B: Body>(alloc: Global, disk: &mut D) -> Result<FileNo, S
     ensures untouched { OnlyReads D.Disk disk.old disk.new }
     ensures cause { HasSaveCause (D.fault_count disk.old) (D.fault_count disk.new) result }
 {
-    match find::<D, B>(alloc, disk)? {
-        None => Ok(FileNo::Slot0),
-        Some(found) => match found.file {
-            FileNo::Slot0 => Ok(FileNo::Slot1),
-            _ => Ok(FileNo::Slot0),
+    match find::<D, B>(alloc, disk) {
+        Err(fault) => Err(fault),
+        Ok(found) => match found {
+            None => Ok(FileNo::Slot0),
+            Some(found) => match found.file {
+                FileNo::Slot0 => Ok(FileNo::Slot1),
+                _ => Ok(FileNo::Slot0),
+            },
         },
     }
 }
@@ -87,7 +90,10 @@ pub fn save<D: Disk, B: Body>(
 
     ensures cause { HasSaveCause (D.fault_count disk.old) (D.fault_count disk.new) result }
 {
-    let file = spare_slot::<D, B>(alloc, disk)?;
+    let file = match spare_slot::<D, B>(alloc, disk) {
+        Ok(file) => file,
+        Err(fault) => return Err(fault),
+    };
     if sync_slots(disk).is_err() {
         return Err(SaveFault::StoreFault);
     }

@@ -12,6 +12,7 @@ ghost use Rattle.stay_explain.specs.Ledgers.{IsLedgerOf};
 use crate::ledger::Ledger;
 use crate::working::table_text;
 use meter_journal::{OpenFault, frame, made};
+use office_base::NoMemory;
 use office_types::Entry;
 use std::alloc::Global;
 use std::thread::Threads;
@@ -42,12 +43,15 @@ fn read(alloc: Global, journal: &[u8]) -> Result<Ledger, OpenFault>
     let mut ledger = Ledger::new(alloc);
     let mut gate = FIRST;
     'reading: loop {
-        match frame(alloc, journal, gate)? {
-            Some((entry, next)) => {
-                take(&mut ledger, alloc, entry, gate)?;
+        match frame(alloc, journal, gate) {
+            Ok(Some((entry, next))) => {
+                if let Err(fault) = take(&mut ledger, alloc, entry, gate) {
+                    return Err(fault);
+                }
                 gate = next;
             }
-            None => return Ok(ledger),
+            Ok(None) => return Ok(ledger),
+            Err(fault) => return Err(fault),
         }
     }
 }
@@ -73,7 +77,12 @@ pub fn explain<R: Threads + Sync>(
     // No disk is read.
     ensures no_disk { IsErrOf result OpenFault.StoreFault → ⊥ }
 {
-    made(journal)?;
+    if let Err(fault) = made(journal) {
+        return Err(fault);
+    }
     let ledger = read(alloc, journal)?;
-    Ok(table_text(rt, alloc, ledger.tables(), workers)?)
+    match table_text(rt, alloc, ledger.tables(), workers) {
+        Ok(text) => Ok(text),
+        Err(NoMemory) => Err(OpenFault::NoMemory),
+    }
 }

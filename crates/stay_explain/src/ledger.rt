@@ -129,8 +129,12 @@ impl Ledger {
         if !is_in_order(self.office.last(), entry.moment) {
             return Err(OpenFault::Damaged { offset: gate });
         }
-        entry_is_new(&self.office, entry, gate)?;
-        let booking = self.booking_of(alloc, entry)?;
+        if let Err(fault) = entry_is_new(&self.office, entry, gate) {
+            return Err(fault);
+        }
+        let Ok(booking) = self.booking_of(alloc, entry) else {
+            return Err(OpenFault::NoMemory);
+        };
         let reply = match self
             .office
             .apply(entry.moment, entry.token.as_ref(), &entry.command)
@@ -138,7 +142,12 @@ impl Ledger {
             Ok(reply) => reply,
             Err(refusal) => return Err(entry_refused(refusal, gate)),
         };
-        entry_taken(&reply, gate)?;
-        Ok(book(&mut self.tables, alloc, &entry.command, booking)?)
+        if let Err(fault) = entry_taken(&reply, gate) {
+            return Err(fault);
+        }
+        match book(&mut self.tables, alloc, &entry.command, booking) {
+            Ok(()) => Ok(()),
+            Err(NoMemory) => Err(OpenFault::NoMemory),
+        }
     }
 }

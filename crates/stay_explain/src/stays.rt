@@ -80,15 +80,21 @@ impl Stays {
         ensures { OnOk result (self.new ≡ begin_stay owner.key (item_of owner.item) (lines_of lines) at self.old) }
     {
         let kept = copy_of(&owner)?;
-        self.rows.reserve(1)?;
-        self.places.insert(kept, self.rows.len())?;
-        self.rows.push_reserved(Row {
-            owner,
-            lines,
-            from: at,
-            to: None,
-        });
-        Ok(())
+        if self.rows.reserve(1).is_err() {
+            return Err(NoMemory);
+        }
+        match self.places.insert(kept, self.rows.len()) {
+            Ok(_) => {
+                self.rows.push_reserved(Row {
+                    owner,
+                    lines,
+                    from: at,
+                    to: None,
+                });
+                Ok(())
+            }
+            Err(_) => Err(NoMemory),
+        }
     }
 
     /// Books what an entry does: the ends in their order, and then what begins.

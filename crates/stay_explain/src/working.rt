@@ -29,7 +29,9 @@ fn bind(alloc: Global, pages: &[Page<'_>]) -> Result<Vec<u8>, NoMemory>
     let mut text = header_text(alloc)?;
     for page in pages {
         let rows = page.text()?;
-        text.extend_from_slice(rows)?;
+        if text.extend_from_slice(rows).is_err() {
+            return Err(NoMemory);
+        }
     }
     Ok(text)
 }

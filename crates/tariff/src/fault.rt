@@ -4,7 +4,7 @@ ghost use Rattle.tariff.specs.Faults.{TariffGives, unknown_field};
 ghost use Rattle.tariff.specs.Reading.{table_name};
 
 use class_rules::Class;
-use std::alloc::{AllocError, AllocFailed, Global};
+use std::alloc::{AllocError, Global};
 
 /// A table of a tariff.
 #[derive(Clone, Copy, Debug, PartialEq, Eq)]
@@ -62,17 +62,6 @@ pub enum TariffFault {
     BadFrom,
     /// Memory ran out.
     NoMemory,
-}
-
-impl<T: Drop> From<AllocFailed<T>> for TariffFault {
-    ghost use Rattle.std.specs.Prelude.{◌≡◌};
-    ghost use Rattle.tariff.specs.declared.fault.TariffFault.TheVariants.{NoMemory};
-
-    ghost from_gives = { λ _ e. e ≡ NoMemory };
-
-    fn from(_error: AllocFailed<T>) -> TariffFault {
-        TariffFault::NoMemory
-    }
 }
 
 impl From<AllocError> for TariffFault {

@@ -327,7 +327,9 @@ fn tiers_said(alloc: Global, class: Class, elements: &[Value]) -> Result<Vec<Tie
         let Some(tier) = tier_said(element) else {
             return Err(TariffFault::BadTiers { class });
         };
-        tiers.push(tier)?;
+        if tiers.push(tier).is_err() {
+            return Err(TariffFault::NoMemory);
+        }
     }
     Ok(tiers)
 }

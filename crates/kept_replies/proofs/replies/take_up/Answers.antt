@@ -12,7 +12,7 @@ returns-clause-indexed c =
     let same = c.in_ok-make_room.ensures.same in
     let counted : c.len.result ≡ length c.make_room.new.queue.items = omega arith in
     let place = counted ∙ ap (λ (l : List Kept). length l) same in
-    let put = c.in_ok-put_number.ensures.put ∙ (λ i. with_name (c.in-Ok.ensures i) (place i) numbers) in
+    let put = c.in_ok-put_number.ensures.put ∙ (λ i. with_name (c.in_ok-token.ensures i) (place i) numbers) in
     let items = c.push_back_reserved.ensures.items ∙ ap (λ (l : List Kept). l ++ c.args.kept ∷ []) same in
     subst (λ (l : List Kept). IsIndexed 0 c.put_number.new.numbers.entries l) (sym items)
     (subst (λ (n : List (List ℕ × ℕ)). IsIndexed 0 n (queue ++ c.args.kept ∷ [])) (sym put) (taken_up numbers c.args.kept queue c.requires.new c.requires.indexed))

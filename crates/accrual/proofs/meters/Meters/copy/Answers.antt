@@ -6,11 +6,11 @@ use Rattle.accrual.proofs.meters.Meters.copy.Goals as goal
 
 pub invariant_of-result : goal.invariant_of-result
 invariant_of-result c =
-    let run = c.in-Ok.ensures.run in
+    let run = c.in_ok-rows.ensures.run in
     let was = c.self.invariant.run in
-    bounded_same c.self.inside.rows c.in-Ok.rows c.self.inside.booked c.self.invariant c.in-Ok.ensures.same (omega (arith, run, was))
+    bounded_same c.self.inside.rows c.in_ok-rows.rows c.self.inside.booked c.self.invariant c.in_ok-rows.ensures.same (omega (arith, run, was))
 
-pub returns-in-Ok-clause-stands : goal.returns-in-Ok-clause-stands
-returns-in-Ok-clause-stands c = λ book stands.
-    stands_same (record { rows = c.self.inside.rows; booked = c.self.inside.booked }) (record { rows = c.in-Ok.rows; booked = c.self.inside.booked }) book
-    c.in-Ok.ensures.same (subst (λ (t : Totals). AreTotalsOf t book) (sym c.self.view_is) stands)
+pub returns-clause-stands : goal.returns-clause-stands
+returns-clause-stands c = λ book stands.
+    stands_same (record { rows = c.self.inside.rows; booked = c.self.inside.booked }) (record { rows = c.in_ok-rows.rows; booked = c.self.inside.booked }) book
+    c.in_ok-rows.ensures.same (subst (λ (t : Totals). AreTotalsOf t book) (sym c.self.view_is) stands)

@@ -7,4 +7,4 @@ new-requires c = record { disjoint = refl }
 
 pub invariant_of-result : goal.invariant_of-result
 unfolding rows
-invariant_of-result c = c.in-Ok.ensures
+invariant_of-result c = c.in_ok-table.ensures

@@ -6,11 +6,11 @@ use Rattle.office_base.proofs.tags.Tags.read.Goals as goal
 pub invariant_of-result : goal.invariant_of-result
 invariant_of-result c =
     let valid : are_tags (tags_of c.args.pairs.items) ≡ true = search rules in
-    let kept : tags_of c.in-Ok.pairs.items ≡ by_key (tags_of c.args.pairs.items) = search rules in
+    let kept : tags_of c.in_ok-pairs.pairs.items ≡ by_key (tags_of c.args.pairs.items) = search rules in
     subst AreTags (sym kept) (kept_tags (tags_of c.args.pairs.items) valid)
 
-pub returns-in-Ok-clause-ok : goal.returns-in-Ok-clause-ok
-returns-in-Ok-clause-ok c =
+pub returns-clause-ok : goal.returns-clause-ok
+returns-clause-ok c =
     let valid : are_tags (tags_of c.args.pairs.items) ≡ true = search rules in
-    let kept : tags_of c.in-Ok.pairs.items ≡ by_key (tags_of c.args.pairs.items) = search rules in
+    let kept : tags_of c.in_ok-pairs.pairs.items ≡ by_key (tags_of c.args.pairs.items) = search rules in
     (kept, subst AreTags (sym kept) (kept_tags (tags_of c.args.pairs.items) valid))
