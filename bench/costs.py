@@ -1,5 +1,5 @@
 #!/usr/bin/env python3
-"""The requests that cost most, as docs/SECURITY.md lists them: python3 bench/worst_cases.py PROGRAM [CASE..]
+"""The requests that cost most, as docs/SECURITY.md lists them: python3 bench/costs.py PROGRAM [CASE..]
 
 PROGRAM is crates/office_cli/out/office_cli. Each case runs in a new folder in /dev/shm, and prints a line. Memory is the process's high-water
 mark (VmHWM), seconds are of the processor. The cases, all of them if none is named:
