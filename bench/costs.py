@@ -1,168 +1,526 @@
 #!/usr/bin/env python3
-"""The requests that cost most, as docs/SECURITY.md lists them: python3 bench/costs.py PROGRAM [CASE..]
+"""What one request may cost: python3 bench/costs.py [--small] [--port PORT] PROGRAM [ROW..]
 
-PROGRAM is crates/office_cli/out/office_cli. Each case runs in a new folder in /dev/shm, and prints a line. Memory is the process's high-water
-mark (VmHWM), seconds are of the processor. The cases, all of them if none is named:
+Measures the rows of the table below, or those that are named, and compares each figure with its bound. A bound is what the documents
+state, or what was measured if the program does not keep that. A figure without a bound is in no document. PROGRAM is
+crates/office_cli/out/office_cli. Each size has an office of its own, in a new folder in /dev/shm.
 
-  tariff    PUT /tariff of nested keys: of 64 KiB, of 1 MiB, and four of 1 MiB at once, with 4 workers
-  limited   the one of 1 MiB under a limit of 400 MB on the address space (RLIMIT_AS)
-  json      PUT of a configuration of 1 MiB of nested objects
-  reply     GET of a key with 30,000 versions, each with 10 tags of greatest length
-  due       GET due of a bucket with 100,000 keys and 1,000 rules, nothing of which is due
-  opening   opening a journal with 20,000 puts and 20,000 lifecycle actions on one bucket, and the table of its stays
-  explain   the table of stays of a journal of 200,000 puts
+  memory     The most that the process had (VmHWM) above what it had before the request. Of a start and of `explain` it is what they
+             had above `run` over an office without records. The system counts pages in lots, so it may be off by 1 MiB.
+  processor  The time of all threads of the process for a request, so no less than the time inside the turn on the office. If it has
+             a bound, it is the least of five turns, and a row that passes it is tried up to three times. The bound is twice the time
+             that is stated, for a busy machine.
+  syncs      The calls of fsync and fdatasync for a request that changes something, counted by `strace -c -f`.
+
+`--small` takes small sizes: seconds in all. The servers listen on PORT, or on a port that the system chooses. The exit code is
+
+  0   No bound was passed.
+  1   A bound was passed, or the program did something else. The last lines have the row, what was found and the bound.
+  77  No bound was passed, and syncs were left out, since strace is missing. A line names each row.
 """
+import argparse
 import datetime
+import itertools
 import json
-import os
 import pathlib
 import re
-import resource
+import string
 import subprocess
 import sys
 import tempfile
-import threading
+from collections.abc import Callable, Iterator
+from functools import partial
+from typing import NamedTuple, Optional
 
-from serve_memory import connect, free_port
+sys.dont_write_bytecode = True
+import acts  # noqa: E402
+from acts import frame, place  # noqa: E402
+from rules import configuration  # noqa: E402
+from watched import Office, Reply, Server, Wrong, command, lacking, running, serving, syncs  # noqa: E402
 
-
-def message(line, body=b""):
-    return b"%s HTTP/1.1\r\nContent-Length: %d\r\n\r\n%s" % (line.encode(), len(body), body)
-
-
-def nested_tariff(size):
-    lines = (b"b%d." % i + b".".join([b"a"] * 70) + b"=0\n" for i in range(size // 147))
-    return b"".join(lines)[:size]
-
-
-def nested_json(size):
-    return b"[" + b",".join([b'{"":{"":{"":0}}}'] * (size // 17 - 1)) + b"]"
-
-
-class Office:
-    """An office in a folder of its own."""
-
-    def __init__(self, program, folder):
-        self.program, self.folder = program, folder
-        subprocess.run([program, "init"], cwd=folder, check=True, stdout=subprocess.DEVNULL)
-
-    def call(self, word, path):
-        """Runs a command of the program on a file: its processor time, and its greatest memory in KiB."""
-        with open(path, "rb") as asked, open(os.devnull, "wb") as replies, \
-                subprocess.Popen([self.program, word], cwd=self.folder, stdin=asked, stdout=replies) as child:
-            _, status, usage = os.wait4(child.pid, 0)
-            child.returncode = os.waitstatus_to_exitcode(status)
-        if child.returncode != 0:
-            sys.exit(f"{word} ended with {child.returncode}")
-        return usage.ru_utime + usage.ru_stime, usage.ru_maxrss
-
-    def run(self, messages):
-        """Sends the messages to `run`."""
-        path = pathlib.Path(self.folder, "in")
-        with open(path, "wb") as file:
-            for one in messages:
-                file.write(one)
-        return self.call("run", path)
-
-    def forget(self):
-        """Removes the checkpoints, so that the next opening replays the whole journal."""
-        for it in ("check.0", "check.1"):
-            pathlib.Path(self.folder, "office-data", it).unlink(missing_ok=True)
-
-    def explain(self):
-        return self.call("explain", os.devnull)
-
-    def serve(self, workers, requests, limit=None):
-        """Sends each request over a connection of its own, all at once: the replies, and the server's greatest memory in KiB."""
-        port = free_port()
-        words = [self.program, "serve", "--listen", f"127.0.0.1:{port}", "--workers", str(workers)]
-        limited = (lambda: resource.setrlimit(resource.RLIMIT_AS, (limit, limit))) if limit else None
-        with subprocess.Popen(words, cwd=self.folder, preexec_fn=limited) as server:
-            replies = []
-
-            def ask(request):
-                with connect(port) as client:
-                    client.settimeout(300)
-                    client.sendall(request)
-                    head = client.recv(65536)
-                    length = int(re.search(rb"content-length: (\d+)", head)[1])
-                    count = len(head) - head.index(b"\r\n\r\n") - 4
-                    while count < length:
-                        count += len(client.recv(1 << 20))
-                    replies.append((int(head[9:12]), length))
-            threads = [threading.Thread(target=ask, args=(request,)) for request in requests]
-            for thread in threads:
-                thread.start()
-            for thread in threads:
-                thread.join()
-            status = pathlib.Path(f"/proc/{server.pid}/status").read_text(encoding="ascii")
-            server.kill()
-        return replies, int(re.search(r"VmHWM:\s*(\d+)", status)[1])
+ROOT = pathlib.Path(__file__).resolve().parent.parent
+MIB = 1 << 20
+OFF_BY = MIB  # what the system's count of a process's pages may be off by, in bytes
+LEFT_OUT = 77  # as automake and meson have it
+TURNS, TRIES = 5, 3  # of the turns of a row the least processor time counts
+MADE, DONE, UNKNOWN, NO_MEMORY = b"HTTP/1.1 201 ", b"HTTP/1.1 20", b'{"error":"UnknownField",', b'{"error":"NoMemory",'
+ACT, REMOVED = b"POST /buckets/logs/act HTTP/1.1\r\n\r\n", b'{"action":"remove",'
+DUE, NONE_DUE = b"GET /buckets/logs/due HTTP/1.1\r\n\r\n", b'{"action":"none"}'
+CLASSES = ("STANDARD", "STANDARD_IA", "ONEZONE_IA", "GLACIER_IR", "GLACIER", "DEEP_ARCHIVE")
+NEVER = 365 * 70  # days after which nothing here is due
+WIDEST = "\U00010000"  # a character of four bytes
 
 
-def told(what, replies, kib):
-    print(f"{what}: replies {sorted(replies)}, memory {kib} KiB, date {datetime.date.today()}", flush=True)
+class Found(NamedTuple):
+    """What a row took. Memory is in bytes, and a multiple of `weight`; seconds are for `times` requests, syncs for `changes` of them."""
+    bytes: Optional[int] = None
+    weight: int = MIB
+    seconds: Optional[float] = None
+    times: int = 1
+    syncs: Optional[int] = None
+    changes: int = 1
 
 
-def tariff(office):
-    for name, size, count in (("64 KiB", 1 << 16, 1), ("1 MiB", 1_000_000, 1), ("four of 1 MiB", 1_000_000, 4)):
-        told(f"tariff, {name}", *office.serve(4, [message("PUT /tariff", nested_tariff(size))] * count))
+class Row(NamedTuple):
+    """A row of the table: its name, what is asked, what a size counts, the sizes and the small ones, and how it is measured.
+
+    Then its bounds: memory with its unit, processor milliseconds with what they are for, and the syncs of a request that changes
+    something. `None` in place of a bound says that no document has a figure.
+    """
+    name: str
+    asked: str
+    counts: str
+    sizes: tuple[int, ...]
+    small: tuple[int, ...]
+    measure: Callable[[Office, int], Found]
+    memory: Optional[float] = None
+    unit: str = "MiB"
+    milliseconds: Optional[float] = None
+    each: str = "a request"
+    syncs: Optional[int] = None
 
 
-def limited(office):
-    told("tariff, 1 MiB, limited to 400 MB", *office.serve(4, [message("PUT /tariff", nested_tariff(1_000_000))], 400_000_000))
+# Requests, and journals.
+
+def message(line: str, body: bytes = b"", fields: str = "") -> bytes:
+    """The bytes of a request."""
+    return f"{line} HTTP/1.1\r\n{fields}Content-Length: {len(body)}\r\n\r\n".encode() + body
 
 
-def nested(office):
-    told("json, 1 MiB", *office.serve(4, [message("PUT /buckets/aaa/lifecycle", nested_json(1 << 20))]))
+def put_rules(rules: list[dict], bucket: str = "logs") -> bytes:
+    """The request that sets a configuration of these enabled rules."""
+    document = {"Rules": [{"Status": "Enabled", **it} for it in rules]}
+    return message(f"PUT /buckets/{bucket}/lifecycle", json.dumps(document).encode())
 
 
-def reply(office):
-    tags = json.dumps({chr(97 + i) + "\1" * 127: "\1" * 256 for i in range(10)})
-    body = json.dumps({"size": 5}).encode()[:-1] + b',"tags":' + tags.encode() + b"}"
-    puts = (message("PUT /buckets/aaa/objects/k", body) for _ in range(30_000))
-    office.run([message("PUT /buckets/aaa"), message("PUT /buckets/aaa/versioning", b'{"Status":"Enabled"}'), *puts])
-    told("reply, 30,000 versions", *office.serve(4, [message("GET /buckets/aaa/objects/k")]))
-    told("reply, four at once", *office.serve(4, [message("GET /buckets/aaa/objects/k")] * 4))
+def up_to(size: int, lines: Iterator[bytes]) -> bytes:
+    """The first of these lines, which have at most `size` bytes together."""
+    text = bytearray()
+    for line in lines:
+        if len(text) + len(line) > size:
+            break
+        text += line
+    return bytes(text)
 
 
-def due(office):
-    rules = [{"Status": "Enabled", "Filter": {"Prefix": ""}, "Expiration": {"Days": 30 + i}} for i in range(1_000)]
-    begin = [message("PUT /buckets/aaa"), message("PUT /buckets/aaa/lifecycle", json.dumps({"Rules": rules}).encode())]
-    office.run(begin + [message(f"PUT /buckets/aaa/objects/k{i}", b'{"size":5}') for i in range(100_000)])
-    asked = message("GET /buckets/aaa/due")
-    with_none, _ = office.run([])
-    with_ten, _ = office.run([asked] * 10)
-    print(f"due, 100,000 keys and 1,000 rules: {(with_ten - with_none) / 10:.3f} s a query, opening {with_none:.2f} s")
+def short_names() -> Iterator[bytes]:
+    """The shortest keys of TOML that differ."""
+    letters = string.ascii_letters + string.digits + "-_"
+    return ("".join(it).encode() for count in (1, 2, 3) for it in itertools.product(letters, repeat=count))
 
 
-def opening(office):
-    rules = b'{"Rules":[{"Status":"Enabled","Filter":{"Prefix":""},"Expiration":{"Date":"2024-01-01T00:00:00.000Z"}}]}'
-    puts = [message(f"PUT /buckets/aaa/objects/k{i}", b'{"size":5}') for i in range(20_000)]
-    office.run([message("PUT /buckets/aaa"), message("PUT /buckets/aaa/lifecycle", rules), *puts, *[message("POST /buckets/aaa/act")] * 20_000])
+def nested_tariff(size: int) -> bytes:
+    """Dotted keys, nested as deep as they are read, with two bytes a part."""
+    return up_to(size, (name + b".a" * 78 + b"=0\n" for name in short_names()))
+
+
+def tables_tariff(size: int) -> bytes:
+    """A list of inline tables, each with tables of one entry in it."""
+    table = b"{" + b".".join([b"a"] * 76) + b"=0}"
+    return b"a=[" + b",".join([table] * ((size - 4) // (len(table) + 1))) + b"]"
+
+
+def plain_tariff(size: int) -> bytes:
+    """As many keys as there can be."""
+    return up_to(size, (name + b"=0\n" for name in short_names()))
+
+
+def tiers_tariff(first: str) -> bytes:
+    """A tariff from a month on, with eight tiers in each class."""
+    tiers = ", ".join(f"{{ upto = {it}, price = {it} }}" for it in range(1, 8)) + ", { price = 8 }"
+    storage, moves = "\n".join(f"{it} = [{tiers}]" for it in CLASSES), "\n".join(f"{it} = 1" for it in CLASSES[1:])
+    return f'from = "{first}"\n[storage]\n{storage}\n[transition]\n{moves}\n'.encode()
+
+
+def nested_json(size: int, depth: int) -> bytes:
+    """A list of nested objects, under a name that no body has."""
+    one = b'{"":' * depth + b"0" + b"}" * depth
+    return b'{"x":[' + b",".join([one] * ((size - 8) // (len(one) + 1))) + b"]}"
+
+
+def greatest_tags(character: str) -> dict[str, str]:
+    """Ten tags of greatest length, of this character."""
+    return {chr(97 + it) + character * 127: character * 256 for it in range(10)}
+
+
+def put_frame(key: bytes, name: str = "STANDARD", character: str = "") -> bytes:
+    """The frame of a put of one byte in a class, with the greatest tags of a character, or without tags."""
+    tags = sorted(greatest_tags(character).items()) if character else []
+    text = b"".join(place(it.encode()) + place(value.encode()) for it, value in tags)
+    return frame(5, place(key) + (1).to_bytes(8, "big") + bytes([CLASSES.index(name), len(tags)]) + text)
+
+
+def write_stack(office: Office, count: int, character: str = "") -> None:
+    """Makes a journal of `count` versions of the key `k`, with tags as in `put_frame`."""
+    office.write([frame(1, b""), frame(2, b"\1"), *[put_frame(b"k", character=character)] * count])
+
+
+def write_puts(office: Office, count: int) -> None:
+    """Makes a journal of `count` puts, each under a key of its own."""
+    office.write([frame(1, b""), *(put_frame(b"k%d" % it) for it in range(count))])
+
+
+def write_long_keys(office: Office, count: int, name: str, character: bytes) -> None:
+    """Makes a journal of `count` puts under keys of 1,024 bytes, which end in a character. Each key is put 500 times."""
+    office.write([frame(1, b""), *(put_frame(b"%04d" % (it // 500) + character * 1_020, name) for it in range(count))])
+
+
+def write_expiring(office: Office, count: int, days: int) -> None:
+    """Makes a journal of `count` objects of January 2024, which expire after `days`."""
+    office.journal.write_bytes(acts.journal(count, {"Days": days}))
     office.forget()
-    seconds, kib = office.run([])
-    print(f"opening, 20,000 puts and 20,000 acts: {seconds:.2f} s, memory {kib} KiB", flush=True)
-    seconds, kib = office.explain()
-    print(f"explain, the same journal: {seconds:.2f} s, memory {kib} KiB")
 
 
-def explain(office):
-    office.run([message("PUT /buckets/aaa"), *[message(f"PUT /buckets/aaa/objects/k{i}", b'{"size":5}') for i in range(199_999)]])
-    size = pathlib.Path(office.folder, "office-data", "journal").stat().st_size
-    seconds, kib = office.explain()
-    print(f"explain, a journal of {size} bytes: {seconds:.2f} s, memory {kib} KiB")
+def write_acted(office: Office, count: int) -> None:
+    """Makes a journal of `count` puts and `count` acts."""
+    write_expiring(office, count, 1)
+    with running(office) as run:
+        run.ask([ACT] * count, REMOVED)
+    office.forget()
 
 
-CASES = {"tariff": tariff, "limited": limited, "json": nested, "reply": reply, "due": due, "opening": opening, "explain": explain}
+# Ways of measuring.
+
+def bodies(requests: list[bytes]) -> int:
+    """The bytes of the bodies of requests together."""
+    return sum(len(it.partition(b"\r\n\r\n")[2]) for it in requests)
 
 
-def main():
-    if len(sys.argv) < 2 or not set(sys.argv[2:]) <= set(CASES):
-        sys.exit(__doc__)
-    for name in sys.argv[2:] or CASES:
+def expect(replies: list[Reply], status: int, front: bytes = b"") -> int:
+    """Checks the status and the front of each reply. Returns the bytes of their bodies together."""
+    for it in replies:
+        if it.status != status or not it.front.startswith(front):
+            raise Wrong(f"a reply is {it.status} {it.front[:100]!r}, not {status} {front.decode()}")
+    return sum(it.length for it in replies)
+
+
+def spent(server: Server, asked: list[bytes], status: int, front: bytes = b"", ask: Callable = Server.ask, memory: Callable = Server.peak) -> Found:
+    """What a server takes for requests at once, whose replies have this status and front.
+
+    Memory is a multiple of the bodies, or of the replies if there are no bodies.
+    """
+    rest, before = server.rest(), server.seconds()
+    length = expect(ask(server, asked), status, front)
+    return Found(memory(server) - rest, bodies(asked) or length, server.seconds() - before, len(asked))
+
+
+def by_turns(office: Office, turns: list[list[bytes]], answer: bytes, before: tuple[bytes, ...] = ()) -> Found:
+    """What requests take that are sent in turns, after those of `before`. Each of their replies has to contain `answer`.
+
+    The last turn is only for the syncs. It has three requests or more if they change something, and else none.
+    """
+    with running(office) as run:
+        run.ask(list(before), DONE)
+        rest = run.rest()
+        seconds = min(run.ask(turn, answer) for turn in turns[:-1])
+        most = run.peak() - rest
+    return Found(most, MIB, seconds, len(turns[0]), *counted(office, turns[-1], answer))
+
+
+def counted(office: Office, messages: list[bytes], answer: bytes) -> tuple[Optional[int], int]:
+    """The syncs of messages, and of how many of them. `None` if they cannot be counted here."""
+    return syncs(office, messages, answer) if messages and not lacking() else (None, 1)
+
+
+def resting(office: Office) -> int:
+    """What `run` has over an office without records, in bytes."""
+    with running(office) as run:
+        return run.memory()
+
+
+def explained(office: Office, rest: int, times: int, weight: int, turns: int = 1) -> Found:
+    """What `explain` takes above the resting size, in multiples of `weight`. Its time is for `times` entries."""
+    least = min((command(office, "explain") for _ in range(turns)), key=lambda it: it.seconds)
+    return Found(least.bytes - rest, weight, least.seconds, times)
+
+
+# The rows.
+
+def tariffs(office: Office, size: int, body: Callable[[int], bytes] = nested_tariff, count: int = 1) -> Found:
+    """Sends `count` tariffs at once, which are read whole and then refused."""
+    with serving(office) as server:
+        return spent(server, [message("PUT /tariff", body(size))] * count, 400, UNKNOWN)
+
+
+def limited_tariff(office: Office, size: int) -> Found:
+    """Sends a tariff to a server with a limit of 400 MB on its address space."""
+    with serving(office, limit=400_000_000) as server:
+        return spent(server, [message("PUT /tariff", nested_tariff(size))], 500, NO_MEMORY)._replace(weight=MIB)
+
+
+def tariffs_stay(office: Office, size: int, of_unit: bool = False) -> Found:
+    """Sends four tariffs at once, and looks at what the server keeps, also with the setting of the unit."""
+    unit = (ROOT / "tools" / "systemd" / "office.service").read_text("utf-8")
+    setting = dict(re.findall(r"^Environment=(GLIBC_TUNABLES)=(\S+)$", unit, flags=re.MULTILINE)) if of_unit else {}
+    with serving(office, setting=setting) as server:
+        found = spent(server, [message("PUT /tariff", nested_tariff(size))] * 4, 400, UNKNOWN, memory=Server.settled)
+    return found._replace(weight=MIB) if of_unit else found
+
+
+def json_bodies(office: Office, size: int) -> Found:
+    """Sends bodies of nested JSON, of a configuration and of a put, and returns what the costliest takes."""
+    found = []
+    for target, front in (("lifecycle", UNKNOWN), ("objects/k", b'{"error":"BadBody","field":"x",')):
+        for depth in (1, 3, 100):
+            with serving(office) as server:
+                found.append(spent(server, [message(f"PUT /buckets/logs/{target}", nested_json(size, depth))], 400, front))
+    return max(found, key=lambda it: it.bytes)
+
+
+def replies(office: Office, size: int, count: int = 1, character: str = "\1", unread: bool = False) -> Found:
+    """Asks `count` times at once for all versions of a key, with tags of a character. JSON has six bytes for the character 1."""
+    write_stack(office, size, character)
+    with serving(office, max(count, 4)) as server:
+        return spent(server, [message("GET /buckets/logs/objects/k")] * count, 200, ask=Server.leave_unread if unread else Server.ask)
+
+
+def put_on_stack(office: Office, size: int, rules: int = 0) -> Found:
+    """Puts on a key with many versions, also under rules for noncurrent versions that match none of them."""
+    write_stack(office, size)
+    rule = {"Filter": {"Tag": {"Key": "none", "Value": "none"}}, "NoncurrentVersionExpiration": {"NoncurrentDays": 1}}
+    puts = [message("PUT /buckets/logs/objects/k", b'{"size":1}')]
+    return by_turns(office, [puts * (5 if rules else 1_000)] * TURNS + [puts * 6], MADE, (put_rules([rule] * rules),) if rules else ())
+
+
+def delete_versions(office: Office, size: int, newest: bool = False) -> Found:
+    """Removes versions of a key, always the oldest one or the newest one."""
+    write_stack(office, size)
+    removals = [message(f"DELETE /buckets/logs/versions/{size - it if newest else it + 1}/k") for it in range(size)]
+    tenth = size // 10
+    turns = [removals[it * tenth:(it + 1) * tenth] for it in range(TURNS)]
+    return by_turns(office, [*turns, removals[TURNS * tenth:TURNS * tenth + 6]], b'{"removed":')
+
+
+def due(office: Office, size: int, rules: int = 1) -> Found:
+    """Asks what is due in a bucket, under one rule or more. Nothing is."""
+    write_expiring(office, size, NEVER)
+    more = put_rules([{"Filter": {"Prefix": ""}, "Expiration": {"Days": NEVER + it}} for it in range(rules)])
+    return by_turns(office, [[DUE] * 5_000] * TURNS + [[]], NONE_DUE, (more,) if rules > 1 else ())
+
+
+def act(office: Office, size: int) -> Found:
+    """Has due objects removed, one after another."""
+    write_expiring(office, size, 1)
+    return by_turns(office, [[ACT] * min(size // 6, 5_000)] * TURNS + [[ACT] * 6], REMOVED)
+
+
+def set_rules(office: Office, size: int, wrong: bool = False) -> Found:
+    """Sets a configuration, whose last rule may be wrong."""
+    office.write([frame(1, b"")])
+    put = [message("PUT /buckets/logs/lifecycle", configuration(90 if wrong else 365, size))]
+    answer = b'{"error":"ExpiresTooSoon","number":29,"rule":%d}' if wrong else b'{"rules":%d}'
+    return by_turns(office, [put * 5] * TURNS + [[] if wrong else put * 6], answer % size)._replace(weight=bodies(put), times=5 * size)
+
+
+def set_tariffs(office: Office, size: int) -> Found:
+    """Sets a tariff again, beside others with eight tiers in each class."""
+    puts = [message("PUT /tariff", tiers_tariff(f"{2030 + it // 12}-{it % 12 + 1:02}")) for it in range(size)]
+    return by_turns(office, [puts[:10] * 5] * TURNS + [puts[:6]], b'{"tariff":"set"}', tuple(puts))
+
+
+def tokens(office: Office, size: int) -> Found:
+    """Puts an object again, each time with a token, with names and tags of greatest length."""
+    bucket, body = "b" * 63, json.dumps({"size": 1, "tags": greatest_tags(WIDEST)}, ensure_ascii=False).encode()
+    puts = [message(f"PUT /buckets/{bucket}/objects/{'k' * 1_024}", body, f"Office-Token: {it:064}\r\n") for it in range(size + 7)]
+    found = by_turns(office, [puts[1:size + 1], puts[size + 1:]], MADE, (message(f"PUT /buckets/{bucket}"), puts[0]))
+    return found._replace(weight=size * len(body))
+
+
+def commands(office: Office, size: int) -> Found:
+    """Sends each kind of command, and some acts."""
+    write_expiring(office, size, 1)
+    asked = [message(f"{line} /buckets/two{rest}", body) for line, rest, body in (
+        ("PUT", "", b""), ("PUT", "/versioning", b'{"Status":"Enabled"}'), ("DELETE", "/lifecycle", b""), ("PUT", "/objects/k", b'{"size":1}'),
+        ("PUT", "/tags/1/k", b'{"tags":{"a":"b"}}'), ("DELETE", "/objects/k", b""), ("DELETE", "/versions/1/k", b""), ("POST", "/uploads/k", b""),
+        ("PUT", "/parts/1/1", b'{"size":1}'), ("POST", "/upload/1", b""), ("POST", "/uploads/k", b""), ("DELETE", "/upload/2", b""))]
+    asked.insert(2, put_rules([{"Filter": {"Prefix": "none/"}, "Expiration": {"Days": NEVER}}], "two"))
+    asked += [message("PUT /tariff", tiers_tariff("1970-01")), message("POST /months/2024-01/close")]
+    calls, changes = counted(office, [ACT] * size + asked, DONE)
+    return Found(syncs=calls, changes=changes)
+
+
+def opening(office: Office, size: int) -> Found:
+    """Starts over a journal of puts and as many acts, without a checkpoint."""
+    rest = resting(office)
+    write_acted(office, size)
+    found = []
+    for _ in range(TURNS):
+        with running(office) as run:
+            found.append(Found(run.peak() - rest, MIB, run.seconds(), 2 * size))
+    return min(found, key=lambda it: it.seconds)
+
+
+def explain_acts(office: Office, size: int) -> Found:
+    """Prints the stays of puts and as many acts."""
+    rest = resting(office)
+    write_acted(office, size)
+    return explained(office, rest, 2 * size, MIB, TURNS)
+
+
+def explain_puts(office: Office, size: int) -> Found:
+    """Prints the stays of puts, each under a key of its own: what a put takes."""
+    rest = resting(office)
+    write_puts(office, size)
+    return explained(office, rest, size, size)
+
+
+def explain_keys(office: Office, size: int, name: str = "STANDARD", character: bytes = b"k") -> Found:
+    """Prints the stays of puts under long keys, again and again. CSV has two bytes for a quote."""
+    rest = resting(office)
+    write_long_keys(office, size, name, character)
+    return explained(office, rest, size, office.journal.stat().st_size)
+
+
+def explain_sparse(office: Office, size: int) -> Found:
+    """Prints the stays of 1,000 puts. The file of the journal goes on in a hole, up to `size` bytes."""
+    rest = resting(office)
+    write_puts(office, 1_000)
+    with open(office.journal, "r+b") as file:
+        file.truncate(size)
+    return explained(office, rest, 1_000, size)
+
+
+BODIES, REPLIES, FILE, PUT, ENTRY, RULE = "times the bodies", "times the replies", "times the journal", "bytes a put", "an entry", "a rule"
+# Above each row are the words of the document from which its bound is. A MB there is 1,000 KiB, and counts all that the process has: a
+# server of four workers has 3.4 MB before. If the words are not kept, the bound is what was measured on 2026-11-30. A bound on a time is
+# twice the words. The syncs are from FORMATS, "To append": "sync; write A5 at p; sync".
+TABLE = {row.name: row for row in (
+    # SECURITY: "585 MB of memory", and "41 MB of memory" for 64 KiB. Not kept by deeper keys: 624 MB, and 42 MB.
+    Row("tariff", "PUT /tariff of nested keys", "bytes", (65_536, MIB), (65_536,), tariffs, 609, BODIES),
+    # SECURITY: "2.3 GB for four at once". Not kept: 2.5 GB.
+    Row("tariff-four", "four of them at once", "bytes", (MIB,), (65_536,), partial(tariffs, count=4), 609, BODIES),
+    # SECURITY: "By hand the tariff got 500 under .. 400 MB."
+    Row("tariff-limited", "one of them under a limit of 400 MB: 500", "bytes", (MIB,), (MIB,), limited_tariff, 400_000_000 / MIB),
+    # SECURITY: "1.6 to 2.3 GB stay with the process without the setting".
+    Row("tariff-stays", "what stays of four of them", "bytes", (MIB,), (65_536,), tariffs_stay, 561, BODIES),
+    # SECURITY: "and 4 MB with it". Not kept: 5.7 MB, of which 2.2 MiB came with the tariffs.
+    Row("tariff-given-back", "the same with the setting of the unit", "bytes", (MIB,), (65_536,), partial(tariffs_stay, of_unit=True), 2.2),
+    # SECURITY: "37 MB for 175,456 plain keys".
+    Row("tariff-plain", "PUT /tariff of plain keys", "bytes", (MIB,), (65_536,), partial(tariffs, body=plain_tariff), 36, BODIES),
+    # SECURITY: "97 to 612 MB for small tables".
+    Row("tariff-tables", "PUT /tariff of small tables", "bytes", (MIB,), (65_536,), partial(tariffs, body=tables_tariff), 597, BODIES),
+    # SECURITY: "77 to 181 MB a worker". Not kept: 182 MB.
+    Row("json", "PUT of nested JSON", "bytes", (MIB,), (65_536,), json_bodies, 175, BODIES),
+    # SECURITY: "a reply of 698 MB, 964 MB of memory", of which 144 MB are the versions.
+    Row("reply", "GET of a key, each version with the greatest tags", "versions", (30_000,), (500,), replies, 1.205, REPLIES),
+    # SECURITY: "3.4 GB for four at once".
+    Row("reply-four", "four of them at once", "versions", (30_000,), (500,), partial(replies, count=4), 1.205, REPLIES),
+    # SECURITY: "a reply of 19 MB; with 64 workers and clients that do not read 1.8 GB of memory".
+    Row("reply-unread", "64 GETs of a key that are not read", "versions", (100_000,), (20_000,),
+        partial(replies, count=64, character="", unread=True), 1.47, REPLIES),
+    # PERFORMANCE: 38,789 puts a second.
+    Row("put-stack", "PUT on a key with versions", "versions", (190_000,), (2_000,), put_on_stack, None, "MiB", 0.052, syncs=2),
+    # SECURITY: "it looks at all versions of the key, for each rule".
+    Row("put-rules", "the same under 100 rules that match none of them", "versions", (50_000,), (2_000,), partial(put_on_stack, rules=100), syncs=2),
+    Row("delete-oldest", "DELETE of the oldest version", "versions", (50_000,), (1_000,), delete_versions, syncs=2),
+    Row("delete-newest", "DELETE of the newest version", "versions", (50_000,), (1_000,), partial(delete_versions, newest=True), syncs=2),
+    # PERFORMANCE: "Query, nothing due: 3 µs".
+    Row("due", "GET due, of which nothing is", "objects", (100, 10_000, 200_000), (100, 2_000), due, None, "MiB", 0.006),
+    Row("due-rules", "the same under 1,000 rules", "objects", (100_000,), (500,), partial(due, rules=1_000)),
+    # PERFORMANCE: "Act that removes one: 11 µs", 8, and 17 for 200,000 objects.
+    Row("act", "POST act, which removes an object", "objects", (100, 10_000, 200_000), (100, 2_000), act, None, "MiB", 0.034, syncs=2),
+    # PERFORMANCE: 56 a second of 1,000 rules, so 0.036 ms a rule are wanted. Not kept: 0.028 to 0.048 ms.
+    Row("rules", "PUT of a configuration", "rules", (1_000,), (100,), set_rules, None, BODIES, 0.05, RULE, 2),
+    # PERFORMANCE: 149 a second of 1,000 rules, so 0.0134 ms a rule are wanted. Not kept: 0.011 to 0.019 ms.
+    Row("rules-refused", "the same with an error in the last rule", "rules", (1_000,), (100,),
+        partial(set_rules, wrong=True), None, BODIES, 0.02, RULE),
+    Row("tariffs", "PUT /tariff of eight tiers, beside others", "tariffs", (100,), (100,), set_tariffs, syncs=2),
+    # SECURITY: "some 175 MB for the kept replies: computed", of 10,000 puts. Not kept: 177 million bytes.
+    Row("tokens", "PUT with a token, the greatest tags and names", "puts", (10_000,), (500,), tokens, 1.15, BODIES, syncs=2),
+    Row("commands", "each kind of command", "acts", (5,), (5,), commands, syncs=2),
+    # PERFORMANCE: "opening 20,000 puts and 20,000 acts, processor time: 0.11 s".
+    Row("opening", "a start without a checkpoint", "puts and acts", (20_000,), (5_000,), opening, None, "MiB", 0.0055, ENTRY),
+    # PERFORMANCE: "`office explain` of that journal, processor time: 0.11 s".
+    Row("explain-acts", "explain", "puts and acts", (20_000,), (5_000,), explain_acts, None, "MiB", 0.0055, ENTRY),
+    # SECURITY: "137 MB for 200,000 puts". Not kept: 140 MB.
+    Row("explain-puts", "explain", "puts", (200_000,), (20_000,), explain_puts, 709, PUT, each=ENTRY),
+    # SECURITY: "2.1 GB for a journal of 505 MB".
+    Row("explain-keys", "explain, keys of 1,024 bytes", "puts", (478_000,), (20_000,), explain_keys, 4.17, FILE, each=ENTRY),
+    Row("explain-quotes", "the same of quotes, in GLACIER", "puts", (100_000,), (5_000,),
+        partial(explain_keys, name="GLACIER", character=b'"'), None, FILE, each=ENTRY),
+    Row("explain-sparse", "explain of 1,000 puts before a hole in the file", "bytes", (2 << 30,), (64 << 20,),
+        explain_sparse, None, FILE, each=ENTRY),
+)}
+
+
+# What is printed.
+
+def figures(row: Row, found: Found) -> Iterator[tuple[str, float, str, Optional[float], float]]:
+    """Each figure that was found: its name, its value, its unit, its bound, and by how much it may be off."""
+    if found.bytes is not None:
+        yield "memory", found.bytes / found.weight, row.unit, row.memory, OFF_BY / found.weight
+    if found.seconds is not None:
+        yield "processor", 1_000 * found.seconds / found.times, f"ms {row.each}", row.milliseconds, 0
+    if found.syncs is not None:
+        yield "syncs", found.syncs / found.changes, "a change", row.syncs, 0
+
+
+def shown(row: Row, found: Found) -> str:
+    """The figures of a row with their bounds, as a text."""
+    return ", ".join(f"{name} {value:.4g} {unit}" + (f" (at most {bound:.4g})" if bound is not None else "")
+                     for name, value, unit, bound, _ in figures(row, found))
+
+
+def passed(row: Row, found: Found) -> list[str]:
+    """Each bound that is passed, with both figures. Fewer syncs than stated are as wrong as more."""
+    return [f"{name} {value:.4g} {unit}, {'at most' if value > bound else 'not'} {bound:.4g}"
+            for name, value, unit, bound, off in figures(row, found)
+            if bound is not None and (value > bound + off or name == "syncs" and value != bound)]
+
+
+def found_for(row: Row, size: int, program: str, port: Optional[int]) -> Found:
+    """Measures one size of a row, and again if only its time passes a bound: another process may have been at work."""
+    for _ in range(TRIES):
         with tempfile.TemporaryDirectory(dir="/dev/shm") as folder:
-            CASES[name](Office(str(pathlib.Path(sys.argv[1]).resolve()), folder))
+            found = row.measure(Office(program, folder, port), size)
+        if [it.partition(" ")[0] for it in passed(row, found)] != ["processor"]:
+            break
+    return found
 
 
-main()
+def measure(row: Row, size: int, program: str, port: Optional[int]) -> tuple[list[str], bool]:
+    """Measures one size of a row, and prints it. Returns why it failed, and whether its syncs were left out."""
+    about = f"{row.name} {size} {row.counts}"
+    try:
+        found = found_for(row, size, program, port)
+    except (Wrong, OSError, subprocess.SubprocessError) as why:
+        print(f"{about}: {why}", flush=True)
+        return [f"FAILED: {about}: {why}"], False
+    print(f"{about}: {shown(row, found)}", flush=True)
+    left_out = row.syncs is not None and found.syncs is None
+    if left_out:
+        print(f"left out: {about}: syncs: no {lacking()}", flush=True)
+    return [f"BOUND PASSED: {about}: {it}" for it in passed(row, found)], left_out
+
+
+def words_of(line: list[str]) -> argparse.Namespace:
+    """Reads the command line."""
+    rows = "rows:\n" + "".join(f"  {it.name:18}{it.asked}\n" for it in TABLE.values())
+    parser = argparse.ArgumentParser(prog="costs.py", description=__doc__, epilog=rows, formatter_class=argparse.RawDescriptionHelpFormatter)
+    parser.add_argument("--small", action="store_true", help="small sizes, which take seconds in all")
+    parser.add_argument("--port", type=int, help="the port of the servers")
+    parser.add_argument("program", metavar="PROGRAM")
+    parser.add_argument("rows", metavar="ROW", nargs="*", help="a row by its name; all of them if none is named")
+    given = parser.parse_args(line)
+    unknown = [name for name in given.rows if name not in TABLE]
+    if unknown:
+        parser.error(f"there is no row {' '.join(unknown)}; there are: {' '.join(TABLE)}")
+    return given
+
+
+def main(line: list[str]) -> int:
+    """Measures the rows, and returns the exit code."""
+    given = words_of(line)
+    program, wrong, left_out, count = str(pathlib.Path(given.program).resolve()), [], 0, 0
+    for name in given.rows or TABLE:
+        row = TABLE[name]
+        for size in row.small if given.small else row.sizes:
+            why, lacks = measure(row, size, program, given.port)
+            wrong, left_out, count = wrong + why, left_out + lacks, count + (not lacks)
+    print("".join(f"{it}\n" for it in wrong), end="")
+    print(f"{count} measured, {len(wrong)} failed, {left_out} left out, date {datetime.date.today()}")
+    return 1 if wrong else LEFT_OUT if left_out else 0
+
+
+if __name__ == "__main__":
+    sys.exit(main(sys.argv[1:]))

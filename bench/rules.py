@@ -31,12 +31,13 @@ fn main() {
 """
 
 
-def configuration(last):
-    """Whose last rule expires objects after so many days."""
+def configuration(last, count=1_000):
+    """Of so many rules, whose last one expires objects after so many days."""
     rules = [{"ID": f"rule number {it}", "Status": "Enabled",
               "Filter": {"And": {"Prefix": f"logs/{it:04}/", "Tags": [{"Key": "kind", "Value": "raw"}, {"Key": "keep", "Value": "no"}]}},
-              "Transitions": [{"Days": 30, "StorageClass": "STANDARD_IA"}, {"Days": 90, "StorageClass": "GLACIER"}], "Expiration": {"Days": last if it == 999 else 365}}
-             for it in range(1_000)]
+              "Transitions": [{"Days": 30, "StorageClass": "STANDARD_IA"}, {"Days": 90, "StorageClass": "GLACIER"}],
+              "Expiration": {"Days": last if it == count - 1 else 365}}
+             for it in range(count)]
     return json.dumps({"Rules": rules, "TransitionDefaultMinimumObjectSize": "all_storage_classes_128K"}, indent=1).encode()
 
 
