@@ -19,6 +19,7 @@ crates/office_cli/out/office_cli. Each size has an office of its own, in a new f
   77  No bound was passed, and syncs were left out, since strace is missing. A line names each row.
 """
 import argparse
+import collections
 import datetime
 import itertools
 import json
@@ -478,19 +479,20 @@ def found_for(row: Row, size: int, program: str, port: Optional[int]) -> Found:
     return found
 
 
-def measure(row: Row, size: int, program: str, port: Optional[int]) -> tuple[list[str], bool]:
-    """Measures one size of a row, and prints it. Returns why it failed, and whether its syncs were left out."""
+def measure(row: Row, size: int, program: str, port: Optional[int]) -> tuple[str, list[str]]:
+    """Measures one size of a row, and prints it. Returns how that ended, and the lines of what failed."""
     about = f"{row.name} {size} {row.counts}"
     try:
         found = found_for(row, size, program, port)
     except (Wrong, OSError, subprocess.SubprocessError) as why:
         print(f"{about}: {why}", flush=True)
-        return [f"FAILED: {about}: {why}"], False
-    print(f"{about}: {shown(row, found)}", flush=True)
-    left_out = row.syncs is not None and found.syncs is None
-    if left_out:
-        print(f"left out: {about}: syncs: no {lacking()}", flush=True)
-    return [f"BOUND PASSED: {about}: {it}" for it in passed(row, found)], left_out
+        return "failed", [f"FAILED: {about}: {why}"]
+    print(f"{about}: {shown(row, found) or 'nothing'}", flush=True)
+    wrong = [f"BOUND PASSED: {about}: {it}" for it in passed(row, found)]
+    if row.syncs is None or found.syncs is not None:
+        return "measured", wrong
+    print(f"left out: {about}: syncs: no {lacking()}", flush=True)
+    return "left out", wrong
 
 
 def words_of(line: list[str]) -> argparse.Namespace:
@@ -511,15 +513,16 @@ def words_of(line: list[str]) -> argparse.Namespace:
 def main(line: list[str]) -> int:
     """Measures the rows, and returns the exit code."""
     given = words_of(line)
-    program, wrong, left_out, count = str(pathlib.Path(given.program).resolve()), [], 0, 0
+    program, wrong, ends = str(pathlib.Path(given.program).resolve()), [], collections.Counter()
     for name in given.rows or TABLE:
         row = TABLE[name]
         for size in row.small if given.small else row.sizes:
-            why, lacks = measure(row, size, program, given.port)
-            wrong, left_out, count = wrong + why, left_out + lacks, count + (not lacks)
+            end, why = measure(row, size, program, given.port)
+            ends[end] += 1
+            wrong += why
     print("".join(f"{it}\n" for it in wrong), end="")
-    print(f"{count} measured, {len(wrong)} failed, {left_out} left out, date {datetime.date.today()}")
-    return 1 if wrong else LEFT_OUT if left_out else 0
+    print(f"{ends['measured']} measured, {len(wrong)} failed, {ends['left out']} left out, date {datetime.date.today()}")
+    return 1 if wrong else LEFT_OUT if ends["left out"] else 0
 
 
 if __name__ == "__main__":
