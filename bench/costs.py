@@ -1,5 +1,5 @@
 #!/usr/bin/env python3
-"""What one request may cost: python3 bench/costs.py [--small] [--port PORT] PROGRAM [ROW..]
+"""What one request may cost: python3 bench/costs.py [--small] [--no-times] [--port PORT] PROGRAM [ROW..]
 
 Measures the rows of the table below, or those that are named, and compares each figure with its bound. A bound is what the documents
 state, or what was measured if the program does not keep that. A figure without a bound is in no document. PROGRAM is
@@ -500,6 +500,7 @@ def words_of(line: list[str]) -> argparse.Namespace:
     rows = "rows:\n" + "".join(f"  {it.name:18}{it.asked}\n" for it in TABLE.values())
     parser = argparse.ArgumentParser(prog="costs.py", description=__doc__, epilog=rows, formatter_class=argparse.RawDescriptionHelpFormatter)
     parser.add_argument("--small", action="store_true", help="small sizes, which take seconds in all")
+    parser.add_argument("--no-times", action="store_true", help="processor times are printed and not compared: for a busy machine")
     parser.add_argument("--port", type=int, help="the port of the servers")
     parser.add_argument("program", metavar="PROGRAM")
     parser.add_argument("rows", metavar="ROW", nargs="*", help="a row by its name; all of them if none is named")
@@ -515,7 +516,7 @@ def main(line: list[str]) -> int:
     given = words_of(line)
     program, wrong, ends = str(pathlib.Path(given.program).resolve()), [], collections.Counter()
     for name in given.rows or TABLE:
-        row = TABLE[name]
+        row = TABLE[name]._replace(milliseconds=None) if given.no_times else TABLE[name]
         for size in row.small if given.small else row.sizes:
             end, why = measure(row, size, program, given.port)
             ends[end] += 1

@@ -1,5 +1,5 @@
 #!/usr/bin/env -S python3 -B
-"""Runs bench/costs.py over small sizes: no request takes more memory, processor time or syncs than the documents state. Then it shows that
+"""Runs bench/costs.py over small sizes: no request takes more memory or syncs than the documents state. Then it shows that
 the script fails if a bound is passed, and names what it leaves out. It needs the built program, and strace for the syncs."""
 import os
 import re
@@ -40,7 +40,7 @@ class Costs(live.Case):
 
     def test_each_row(self):
         """Each row stays within its bounds."""
-        done = self.costs()
+        done = self.costs("--no-times")
         print(done.stdout, flush=True)
         helped = self.ended([sys.executable, "-B", BENCH / "costs.py", "--help"], text=True).stdout
         rows = re.findall(r"^  (\S+)", helped.partition("\nrows:\n")[2], flags=re.MULTILINE)
