@@ -97,7 +97,7 @@ module _ {W : Type 0} (w : sinks.Ghosts W) (month : ℕ) (bills : List Bill) (ou
   posted_book (Ok receipt) told old new (inl now) = record {
     done = λ _. now.1.posted;
     others = now.1.others;
-    undone = λ not. inr (⊎_elim (λ zero. absurd (not zero.0)) (λ four. inr (inl four.0)) told, now.1);
+    undone = λ not. inr (⊎_elim (λ zero. absurd (not zero.0)) (λ four. inl four.0) told, now.1);
   }
   posted_book (Ok receipt) told old new (inr before) = record {
     done = λ _. before.2 month ∙ before.1;
@@ -117,7 +117,7 @@ module _ {W : Type 0} (w : sinks.Ghosts W) (month : ℕ) (bills : List Bill) (ou
   posted_book (Err KeeperFault) told old new (inr adds) = record {
     done = λ zero. absurd (omega (arith, zero, told.0));
     others = adds.others;
-    undone = λ _. inr (inr (inr told.0), adds);
+    undone = λ _. inr (inr told.0, adds);
   }
   posted_book (Err NoMemory) told old new same = record {
     done = λ zero. absurd (omega (arith, zero, told.status_is));

@@ -63,9 +63,9 @@ module _ {K : Type 0} where
 
 -- ---- what becomes of the bills
 
--- the store, the output or the keeper failed, possibly after the month was posted
+-- the output or the keeper failed, possibly after the month was posted
 abbrev pub MayHavePosted : ℕ → Type 0
-MayHavePosted status = (status ≡ 2) ⊎ ((status ≡ 4) ⊎ (status ≡ 11))
+MayHavePosted status = (status ≡ 4) ⊎ (status ≡ 11)
 
 -- What billing does to the book, by its status. With status 0 the month has these bills. Otherwise nothing changed, or
 -- the month was posted before something failed. No other month changes.
