@@ -59,7 +59,10 @@ fn put(alloc: Global, total: usize, bytes: &[u8]) -> Result<(Command, &[u8]), En
     let (bucket, rest) = name_of(alloc, total, bytes)?;
     let (key, rest) = key_of(alloc, total, rest)?;
     // A `?` would move a `Size` beside a borrow, which has no rule in the check.
-    let (size, rest) = size_of(total, rest)?;
+    let (size, rest) = match size_of(total, rest) {
+        Ok(read) => read,
+        Err(e) => return Err(e),
+    };
     let (class, rest) = class_of(total, rest)?;
     let (tags, rest) = tags_of(alloc, total, rest)?;
     Ok((
@@ -89,7 +92,10 @@ fn delete_version(alloc: Global, total: usize, bytes: &[u8]) -> Result<(Command,
 {
     let (bucket, rest) = name_of(alloc, total, bytes)?;
     let (key, rest) = key_of(alloc, total, rest)?;
-    let (id, rest) = id_of(total, rest)?;
+    let (id, rest) = match id_of(total, rest) {
+        Ok(read) => read,
+        Err(e) => return Err(e),
+    };
     Ok((Command::DeleteVersion { bucket, key, id }, rest))
 }
 
@@ -99,7 +105,10 @@ fn set_tags(alloc: Global, total: usize, bytes: &[u8]) -> Result<(Command, &[u8]
 {
     let (bucket, rest) = name_of(alloc, total, bytes)?;
     let (key, rest) = key_of(alloc, total, rest)?;
-    let (id, rest) = id_of(total, rest)?;
+    let (id, rest) = match id_of(total, rest) {
+        Ok(read) => read,
+        Err(e) => return Err(e),
+    };
     let (tags, rest) = tags_of(alloc, total, rest)?;
     Ok((
         Command::SetTags {
@@ -272,8 +281,10 @@ fn close(total: usize, bytes: &[u8]) -> Result<(Command, &[u8]), EntryFault>
     ensures { EntryGives (λ x. (x.0, x.1.now)) result (kind_at Kind.Close total bytes.now) }
 {
     let (year, rest) = read_year(total, bytes)?;
-    let (month, rest) = read_month(total, year, rest)?;
-    Ok((Command::Close { month }, rest))
+    match read_month(total, year, rest) {
+        Ok((month, rest)) => Ok((Command::Close { month }, rest)),
+        Err(e) => Err(e),
+    }
 }
 
 // The command of a kind.

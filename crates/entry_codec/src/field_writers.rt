@@ -32,7 +32,7 @@ pub fn put_long_text(out: &mut Vec<u8>, bytes: &[u8]) -> Result<(), AllocError>
 }
 
 // A kind, and the token after it, if there is one.
-#[tactic(auto, unfolding(crate::specs::Spelling::head_spelling, crate::specs::Kinds::head_format, crate::specs::Fields::token_format,))]
+#[tactic(auto, unfolding(crate::specs::Spelling::head_spelling, crate::specs::Kinds::head_format, crate::specs::Fields::token_format))]
 pub(crate) fn put_head(
     out: &mut Vec<u8>,
     kind: Kind,

@@ -15,7 +15,9 @@ use std::alloc::Global;
 fn with_value(alloc: Global, value: &[u8], command: Command) -> Result<Ask, Fault>
     ensures { IsMeaning result (with_value value.now command) }
 {
-    let read = Token::read(alloc, value)?;
+    let Ok(read) = Token::read(alloc, value) else {
+        return Err(Fault::NoMemory);
+    };
     let Some(token) = read else {
         return Err(Fault::Bad(Bad::BadToken));
     };
