@@ -31,7 +31,9 @@ impl<D: Disk + Drop, C: Clock + Drop> Engine<D, C> {
             return Ok(());
         }
         let position = self.journal.end();
-        let snapshot = self.office.snapshot(self.alloc)?;
+        let Ok(snapshot) = self.office.snapshot(self.alloc) else {
+            return Err(SaveFault::NoMemory);
+        };
         each_has_six_numbers(&snapshot);
         save(self.alloc, self.journal.disk_mut(), position, &snapshot)
     }

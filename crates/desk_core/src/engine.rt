@@ -254,7 +254,9 @@ impl<D: Disk + Drop, C: Clock + Drop> Engine<D, C> {
         ensures opened_at { self.new.opened_at ≡ self.old.opened_at }
         ensures later { D.fault_count self.old.disk ≤ D.fault_count self.new.disk }
     {
-        let bytes = encode_command(self.alloc, moment, token, command)?;
+        let Ok(bytes) = encode_command(self.alloc, moment, token, command) else {
+            return Err(DeskFault::NoMemory);
+        };
         if !self.journal.fits(bytes.len() as u64) {
             return Err(DeskFault::JournalFull);
         }

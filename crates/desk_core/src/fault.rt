@@ -1,6 +1,5 @@
 // Calls without an answer of the office.
 use meter_journal::OpenFault;
-use office_base::NoMemory;
 
 /// Why a call has no answer of the office.
 #[derive(Clone, Copy, Debug, PartialEq, Eq)]
@@ -20,15 +19,4 @@ pub enum DeskFault {
     Broken(OpenFault),
     /// 115: memory ran out. No record changed, and a stale desk stays stale.
     NoMemory,
-}
-
-impl From<NoMemory> for DeskFault {
-    ghost use Rattle.std.specs.Prelude.{◌≡◌};
-    ghost use Rattle.desk_core.specs.declared.fault.DeskFault.TheVariants.{NoMemory};
-
-    ghost from_gives = { λ _ e. e ≡ NoMemory };
-
-    fn from(_error: NoMemory) -> DeskFault {
-        DeskFault::NoMemory
-    }
 }

@@ -127,8 +127,14 @@ impl<D: Disk + Drop, C: Clock + Drop> Engine<D, C> {
         ensures opened_at { self.new.opened_at ≡ self.old.opened_at }
         ensures cause { HasStoreCause (D.fault_count self.old.disk) (D.fault_count self.new.disk) result }
     {
-        let beginning = beginning(self.alloc, self.journal.disk_mut())?;
-        let end = self.journal.open(beginning.from)?;
+        let beginning = match beginning(self.alloc, self.journal.disk_mut()) {
+            Ok(beginning) => beginning,
+            Err(fault) => return Err(fault),
+        };
+        let end = match self.journal.open(beginning.from) {
+            Ok(end) => end,
+            Err(fault) => return Err(fault),
+        };
         self.office = beginning.office;
         replay(self.alloc, &mut self.journal, end, &mut self.office)
     }

@@ -38,7 +38,9 @@ impl Machine {
         if let Some(refusal) = due_before(&self.accounts, t, end)? {
             return Err(refusal);
         }
-        self.closed.push((month, tariff))?;
+        if self.closed.push((month, tariff)).is_err() {
+            return Err(Refusal::NoMemory);
+        }
         self.last = Some(t);
         self.first_month = Some(first_of(self.first_month, t));
         self.accepted += 1;
