@@ -2,3 +2,4 @@ pub mod Created
 pub mod History
 pub mod Places
 pub mod Reading
+pub mod Windows

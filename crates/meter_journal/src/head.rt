@@ -70,6 +70,28 @@ fn check_head<D: Disk>(disk: &mut D, end: u64) -> Result<(), OpenFault>
     judge(&room, end)
 }
 
+/// Reads the head of the journal file, and returns the length of the file in bytes if it is made. Nothing is written or
+/// synced.
+///
+/// # Errors
+///
+/// `StoreFault`: a call of the disk failed. `NotMade`: the file is shorter than 11 bytes, or has 11 bytes and a closed
+/// gate at its head. `Foreign`: it is longer and has no open gate at its head, or has another mark.
+pub fn measure<D: Disk>(disk: &mut D) -> Result<u64, OpenFault>
+    ensures exact { IsTrue D.tells → HeadGives result (D.state disk.old).journal.seen }
+    ensures size { IsTrue D.tells → IfOk result (λ n. n ≡ length (D.state disk.old).journal.seen) }
+    ensures untouched { OnlyReads D.Disk disk.old disk.new }
+    ensures cause { HasStoreCause (D.fault_count disk.old) (D.fault_count disk.new) result }
+{
+    let Ok(end) = disk.length(FileNo::Journal) else {
+        return Err(OpenFault::StoreFault);
+    };
+    match check_head(disk, end) {
+        Ok(()) => Ok(end),
+        Err(e) => Err(e),
+    }
+}
+
 // Syncs the journal file, and returns its length if it is made.
 pub(crate) fn look<D: Disk>(disk: &mut D) -> Result<u64, OpenFault>
     ensures exact { IsTrue D.tells → HeadGives result (D.state disk.old).journal.seen }
@@ -88,13 +110,7 @@ pub(crate) fn look<D: Disk>(disk: &mut D) -> Result<u64, OpenFault>
     if sync_journal(disk).is_err() {
         return Err(OpenFault::StoreFault);
     }
-    let Ok(end) = disk.length(FileNo::Journal) else {
-        return Err(OpenFault::StoreFault);
-    };
-    match check_head(disk, end) {
-        Ok(()) => Ok(end),
-        Err(e) => Err(e),
-    }
+    measure(disk)
 }
 
 /// Reads the whole journal file into memory, whatever it holds, and writes nothing.

@@ -12,6 +12,7 @@ ghost use Rattle.entry_codec.specs.Spelling.{IsEntry, EntryFits, entry_limit, sp
 ghost use Rattle.meter_journal.specs.History.{IsAtRest, IsNoLonger, BeforeOrAfter};
 ghost use Rattle.meter_journal.specs.Reading.{frame_at, size_at, NextGives, HeadGives, IsMade, HasStoreCause};
 ghost use Rattle.meter_journal.specs.Reading.{from_or_first, Advances};
+ghost use Rattle.meter_journal.specs.Windows.{IsPart};
 ghost use Rattle.meter_journal.specs.contracts.journal.Journal.{the_row};
 ghost use Rattle.meter_journal.specs.declared.fault.OpenFault.TheVariants.{StoreFault};
 
@@ -19,7 +20,8 @@ use crate::fault::OpenFault;
 use crate::framing::write_frame;
 use crate::gate::open_gate;
 use crate::head::look;
-use crate::reading::frame_of;
+use crate::reading::{frame_in, frame_of};
+use crate::window::Window;
 use disk_core::{Disk, Failed};
 use office_types::Entry;
 use std::alloc::Global;
@@ -167,6 +169,50 @@ impl<D: Disk> Journal<D> {
         ensures limit { self.new.limit ≡ self.old.limit }
     {
         match frame_of(alloc, &mut self.disk, self.gate, end)? {
+            Some((entry, gate)) => {
+                self.gate = gate;
+                Ok(Some(entry))
+            }
+            None => Ok(None),
+        }
+    }
+
+    /// Reads the entry at the gate through a window of the file, or returns `None` if the gate is not open.
+    ///
+    /// `end` is the length of the file in bytes, as `open` returned it. After an entry the next call reads at the gate
+    /// after it; after `None` an entry can be added. Nothing is written. Cost: one call of the disk for each 65,536
+    /// bytes, or for each longer frame; memory for the entry, and for such a frame once it is known that the file has
+    /// it. That is at most `entry_codec::ENTRY_LIMIT` bytes for the frame, whatever length it claims.
+    ///
+    /// # Errors
+    ///
+    /// The next call then reads at the same gate again. `Damaged` at the gate: the gate is past the end of the file; or
+    /// it is open, and the frame's length, its entry or the next gate ends past the end or past 2^45 bytes, or the
+    /// frame has no entry. `StoreFault`: a call of the disk failed. `NoMemory`: memory for the entry ran out.
+    pub fn next_in(
+        &mut self,
+        alloc: Global,
+        end: u64,
+        window: &mut Window,
+    ) -> Result<Option<Entry>, OpenFault>
+        requires known { IsTrue D.tells → end ≡ length (D.state self.old.disk).journal.seen }
+        requires part { IsTrue D.tells → IsPart window.old.at window.old.bytes (D.state self.old.disk).journal.seen }
+        ensures exact { IsTrue D.tells → NextGives result self.old.gate self.new.gate
+            (frame_at self.old.gate (D.state self.old.disk).journal.seen) }
+        ensures untouched { OnlyReads D.Disk self.old.disk self.new.disk }
+        ensures cause { HasStoreCause (D.fault_count self.old.disk) (D.fault_count self.new.disk) result }
+        ensures rises { IfOk result (λ read. IfSome read (λ e. (self.old.gate < self.new.gate)
+            × (self.new.gate ≤ 2 ^ 45))) }
+        // Memory runs out only for a frame that claims no more bytes than an entry may have.
+        ensures memory { IsTrue D.tells → IsErrOf result OpenFault.NoMemory
+            → size_at self.old.gate (D.state self.old.disk).journal.seen ≤ entry_limit }
+        // On every disk: what is read is an entry in range, and its frame is passed over.
+        ensures advances { Advances result self.old.gate self.new.gate }
+        ensures limit { self.new.limit ≡ self.old.limit }
+        // The window is still of this file.
+        ensures part { IsTrue D.tells → IsPart window.new.at window.new.bytes (D.state self.old.disk).journal.seen }
+    {
+        match frame_in(alloc, &mut self.disk, self.gate, end, window)? {
             Some((entry, gate)) => {
                 self.gate = gate;
                 Ok(Some(entry))
