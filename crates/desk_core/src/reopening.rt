@@ -19,7 +19,7 @@ use crate::fault::DeskFault;
 use crate::taking::{entry_is_new, entry_refused, entry_taken, is_in_order};
 use checkpoint::load;
 use disk_core::Disk;
-use meter_journal::{Journal, OpenFault};
+use meter_journal::{Journal, OpenFault, Window};
 use office_machine::Office;
 use office_types::Entry;
 use slots::SaveFault;
@@ -96,9 +96,10 @@ fn replay<D: Disk>(
     ensures limit { journal.new.limit ≡ journal.old.limit }
     ensures cause { HasStoreCause (D.fault_count journal.old.disk) (D.fault_count journal.new.disk) result }
 {
+    let mut window = Window::new(alloc)?;
     'reading: loop {
         let gate = journal.end();
-        let read = match journal.next(alloc, end) {
+        let read = match journal.next_in(alloc, end, &mut window) {
             Ok(read) => read,
             Err(fault) => return Err(fault),
         };
