@@ -1,5 +1,6 @@
 ghost use Rattle.std.specs.Prelude.{◌≡◌, true};
-ghost use Rattle.stacks.specs.Stacks.{IsFreeNumber};
+ghost use Rattle.std.specs.List.{list_any};
+ghost use Rattle.stacks.specs.Stacks.{IsFreeNumber, has_id};
 
 use crate::given::{DAY, NEW_YEAR, day, id, size, tags};
 use Change::{Mark, Put, Remove};
@@ -46,13 +47,22 @@ fn row(version: &Version) -> Row {
     )
 }
 
+fn has(stack: &Stack, id: VersionId) -> bool
+    ensures { result ≡ list_any (has_id id) stack.now.versions }
+{
+    match stack.version(id) {
+        Some(_) => true,
+        None => false,
+    }
+}
+
 fn is_free(versioning: Versioning, number: u64, stack: &Stack) -> bool
     ensures { result ≡ true → IsFreeNumber versioning number stack.now.versions }
 {
     match versioning {
         Versioning::Unversioned => true,
         Versioning::Enabled => match Nth::of(number) {
-            Some(number) => stack.version(VersionId::Number(number)).is_none(),
+            Some(number) => !has(stack, VersionId::Number(number)),
             None => false,
         },
         Versioning::Suspended => true,
