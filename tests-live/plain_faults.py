@@ -9,6 +9,7 @@ import re
 
 HEAD, OPEN, SLOT_OPEN, FILLER = b"\xa5METERJRN1", 0xA5, 0xA7, 0x37
 JOURNAL, SLOTS, END_OF_TIME = 0, (1, 2), 4_102_444_800_000
+BLOCK = 65_536  # what is read of the journal at a time
 NAME = re.compile(rb"[a-z0-9][a-z0-9.-]{1,61}[a-z0-9]")
 
 
@@ -95,6 +96,18 @@ def body_of(buckets):
     return moment + b"\x07\xe8\x01" + number(0, 1) + number(0, 4) + number(len(names), 4) + heads + number(0, 12) * len(names) + number(0, 4)
 
 
+class Window:
+    """A part of the journal in memory. If it lacks what is wanted, a block of the file is read from there on, or all that is wanted if that is more."""
+
+    def __init__(self, disk, end):
+        self.disk, self.end, self.at, self.bytes = disk, end, 0, b""
+
+    def part(self, at, size):
+        if at < self.at or self.at + len(self.bytes) < at + size:
+            self.at, self.bytes = at, self.disk.read(JOURNAL, at, min(max(BLOCK, size), self.end - at))
+        return self.bytes[at - self.at:at - self.at + size]
+
+
 class Office:
     """What a session knows: the names of its buckets, its end gate, and whether the entry of the table is in its journal."""
 
@@ -176,17 +189,18 @@ class Office:
             raise Broken("not made" if end == 11 else "foreign")
         if head != HEAD:
             raise Broken("foreign")
+        window = Window(disk, end)
         while True:
             if end <= gate:
                 raise Broken(f"damaged at {gate}")
-            if disk.read(JOURNAL, gate, 1)[0] != OPEN:
+            if window.part(gate, 1)[0] != OPEN:
                 return gate, names
             if end - gate < 5:
                 raise Broken(f"damaged at {gate}")
-            size = int.from_bytes(disk.read(JOURNAL, gate + 1, 4), "big")
+            size = int.from_bytes(window.part(gate, 5)[1:], "big")
             if end < gate + 6 + size:
                 raise Broken(f"damaged at {gate}")
-            last, name = self.entry_at(disk.read(JOURNAL, gate + 5, size), gate, last, names)
+            last, name = self.entry_at(window.part(gate + 5, size), gate, last, names)
             names += [name] if name else []
             gate += 5 + size
 
