@@ -40,6 +40,12 @@ pub no_upload : (bucket : BucketRecord) (number : ℕ) → at_number number buck
 unfolding first_on_upload
 no_upload bucket number none = ap (λ s. least comes_before (asked_of_upload bucket number bucket.rules s)) none ∙ no_upload_by bucket number bucket.rules
 
+-- without rules nothing comes first on any key
+pub no_rules : (index : IndexRecord) (bucket : BucketRecord) → bucket.rules ≡ None → HasNoKeys index → StandsOnKeys index bucket
+unfolding first_on_key
+no_rules index bucket is none =
+    λ key. none key ∙ sym (ap (λ o. least comes_before (asked_of_key bucket key o (at_name key bucket.stacks))) is)
+
 -- ---- keys
 
 -- on each key but those that are left comes next what comes first

@@ -11,6 +11,6 @@ loop-key-init c =
 
 pub loop-key-preserved : goal.loop-key-preserved
 loop-key-preserved c =
-    one_key_less c.args.self.now c.loop-key.self c.set_key.new.self c.args.bucket.now c.in-Some.key.now c.in-Some.field-0-1.now c.next.new.self
-    (subst (λ left. AreKeysLeft c.args.self.now c.loop-key.self c.args.bucket.now left) c.in-Some.ensures.steps c.loop-key.invariant)
-    (subst (λ next. SetsNextOnKey c.loop-key.self c.set_key.new.self c.in-Some.key.now next) c.next_on_key-next.ensures.first c.in_ok-set_key.ensures.ok)
+    one_key_less c.args.self.now c.loop-key.self c.set_key.new.self c.args.bucket.now c.in-Some-2.key.now c.in-Some-2.field-0-1.now c.next.new.self
+    (subst (λ left. AreKeysLeft c.args.self.now c.loop-key.self c.args.bucket.now left) c.in-Some-2.ensures.steps c.loop-key.invariant)
+    (subst (λ next. SetsNextOnKey c.loop-key.self c.set_key.new.self c.in-Some-2.key.now next) c.next_on_key-next.ensures.first c.in_ok-set_key.ensures.ok)
