@@ -1,8 +1,8 @@
 pub mod BodyLaws
+pub mod Collecting
 pub mod CombiningLaws
 pub mod CommandTexts
 pub mod Examples
-pub mod Filling
 pub mod Joining
 pub mod PartLaws
 pub mod Rising

@@ -1,6 +1,6 @@
-// Maps that are filled in rising order of their keys.
+// Maps that are made of pairs whose keys rise.
 ghost use Rattle.std.specs.Prelude.{◌≡◌, true, false, IfOk, IfSome, IfNone};
-ghost use Rattle.std.specs.List.{list_all};
+ghost use Rattle.std.specs.FinMap.{IsAntisymmetric};
 ghost use Rattle.std.specs.Ordering.{is_lt};
 ghost use Rattle.checkpoint.specs.Parts.{keys_rise};
 
@@ -9,36 +9,45 @@ use std::alloc::Global;
 use std::cmp::Ordering;
 use std::collections::BTreeMap;
 
-// Whether the key is above all keys of the map.
-fn is_past<K: Ord, V>(map: &BTreeMap<K, V>, key: &K) -> bool
-    ensures { result ≡ list_all (λ e. is_lt (K.cmp e.0 key.now)) map.now.entries }
+fn is_below<K: Ord>(a: &K, b: &K) -> bool
+    ensures { result ≡ is_lt (K.cmp a.now b.now) }
 {
-    match map.last_key_value() {
-        None => true,
-        Some((last, _)) => match last.cmp(key) {
-            Ordering::Less => true,
-            _ => false,
-        },
+    match a.cmp(b) {
+        Ordering::Less => true,
+        _ => false,
     }
 }
 
-// The map of these pairs; None if their keys do not strictly rise.
+// Whether the keys of the pairs strictly rise. Each is compared with the one before it.
+fn do_keys_rise<K: Ord, V>(pairs: &[(K, V)]) -> bool
+    ensures { result ≡ keys_rise K.cmp pairs.now }
+{
+    let mut before: Option<&K> = None;
+    for pair in pairs {
+        if let Some(last) = before {
+            if !is_below(last, &pair.0) {
+                return false;
+            }
+        }
+        before = Some(&pair.0);
+    }
+    true
+}
+
+// The map of these pairs; None if their keys do not strictly rise. It is built at once, without a search for each key.
+#[tactic(auto, using(crate::proofs::Collecting::collected))]
 pub(crate) fn map_of<K: Ord + Drop, V: Drop>(
     alloc: Global,
     pairs: Vec<(K, V)>,
 ) -> Result<Option<BTreeMap<K, V>>, NoMemory>
+    requires { IsAntisymmetric K.cmp }
     ensures some { IfOk result (λ map. IfSome map
         (λ map. (map.entries ≡ pairs.items) × (keys_rise K.cmp pairs.items ≡ true))) }
     ensures none { IfOk result (λ map. IfNone map (keys_rise K.cmp pairs.items ≡ false)) }
 {
-    let mut map = BTreeMap::new(alloc);
-    for (key, value) in pairs {
-        if !is_past(&map, &key) {
-            return Ok(None);
-        }
-        if map.insert(key, value).is_err() {
-            return Err(NoMemory);
-        }
+    if !do_keys_rise(&pairs) {
+        return Ok(None);
     }
+    let map = pairs.into_iter().collect(alloc)?;
     Ok(Some(map))
 }

@@ -19,7 +19,10 @@ pub(crate) trait Spelled: Drop {
         ensures { Finds (λ x. (x.0, x.1.now)) result (format.front bytes.now) };
 }
 
-// This many values, one after the other.
+// A value has at least about so many bytes. If it has fewer, the list grows.
+const BYTES_OF_ONE: usize = 32;
+
+// This many values, one after the other. Room for them is taken at once, but no more than the bytes can fill.
 pub(crate) fn items_in<T: Spelled>(
     alloc: Global,
     count: usize,
@@ -27,7 +30,7 @@ pub(crate) fn items_in<T: Spelled>(
 ) -> Result<Option<(Vec<T>, &[u8])>, NoMemory>
     ensures { Finds (λ x. (x.0.items, x.1.now)) result (front_items T.format count bytes.now) }
 {
-    let mut items = Vec::new(alloc);
+    let mut items = Vec::with_capacity(alloc, count.min(bytes.len() / BYTES_OF_ONE))?;
     let mut rest = bytes;
     for _ in 0..count {
         let Some((item, after)) = T::read(alloc, rest)? else {
