@@ -1,4 +1,4 @@
--- What a journal and a reading of one are to their callers.
+-- What a journal is to its callers.
 use Rattle.std.specs.Prelude.{ℕ}
 
 -- a journal: its disk, the place of the next gate, which is its end gate once it was read, and the limit of its
@@ -7,10 +7,3 @@ pub record JournalView (D : Type 0) : Type 0 where
   pub disk : D
   pub gate : ℕ
   pub limit : ℕ
-
--- a journal that is read: its disk, the place of the next gate, the limit, and the length of the file, in bytes
-pub record ReadingView (D : Type 0) : Type 0 where
-  pub disk : D
-  pub gate : ℕ
-  pub limit : ℕ
-  pub length : ℕ

@@ -19,7 +19,7 @@ const MARK: [u8; 9] = [0x4D, 0x45, 0x54, 0x45, 0x52, 0x4A, 0x52, 0x4E, 0x31];
 
 // Judges a file of this length by its first ten bytes.
 #[tactic(auto, using(crate::proofs::Heads::mark_in))]
-pub(crate) fn judge(front: &[u8; 10], end: u64) -> Result<(), OpenFault>
+fn judge(front: &[u8; 10], end: u64) -> Result<(), OpenFault>
     requires { 11 ≤ end }
     ensures exact { (file : List ℕ) → end ≡ length file → front.now ≡ take 10 file → HeadGives result file }
     ensures told { IsErrOf result OpenFault.StoreFault → ⊥ }

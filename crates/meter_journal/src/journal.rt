@@ -20,7 +20,7 @@ use crate::fault::OpenFault;
 use crate::framing::write_frame;
 use crate::gate::open_gate;
 use crate::head::look;
-use crate::reading::{frame_in, frame_of};
+use crate::reading::frame_in;
 use crate::window::Window;
 use disk_core::{Disk, Failed};
 use office_types::Entry;
@@ -139,42 +139,6 @@ impl<D: Disk> Journal<D> {
         let end = look(&mut self.disk)?;
         self.gate = from.unwrap_or(10);
         Ok(end)
-    }
-
-    /// Reads the entry at the gate, or returns `None` if the gate is not open.
-    ///
-    /// `end` is the length of the file in bytes, as `open` returned it. After an entry the next call reads at the gate
-    /// after it; after `None` an entry can be added. Nothing is written. Cost: memory for the frame, once it is known
-    /// that the file has it, and for its entry. That is at most `entry_codec::ENTRY_LIMIT` bytes for the frame,
-    /// whatever length it claims.
-    ///
-    /// # Errors
-    ///
-    /// The next call then reads at the same gate again. `Damaged` at the gate: the gate is past the end of the file; or
-    /// it is open, and the frame's length, its entry or the next gate ends past the end or past 2^45 bytes, or the
-    /// frame has no entry. `StoreFault`: a call of the disk failed. `NoMemory`: memory for the entry ran out.
-    pub fn next(&mut self, alloc: Global, end: u64) -> Result<Option<Entry>, OpenFault>
-        requires known { IsTrue D.tells → end ≡ length (D.state self.old.disk).journal.seen }
-        ensures exact { IsTrue D.tells → NextGives result self.old.gate self.new.gate
-            (frame_at self.old.gate (D.state self.old.disk).journal.seen) }
-        ensures untouched { OnlyReads D.Disk self.old.disk self.new.disk }
-        ensures cause { HasStoreCause (D.fault_count self.old.disk) (D.fault_count self.new.disk) result }
-        ensures rises { IfOk result (λ read. IfSome read (λ e. (self.old.gate < self.new.gate)
-            × (self.new.gate ≤ 2 ^ 45))) }
-        // Memory runs out only for a frame that claims no more bytes than an entry may have.
-        ensures memory { IsTrue D.tells → IsErrOf result OpenFault.NoMemory
-            → size_at self.old.gate (D.state self.old.disk).journal.seen ≤ entry_limit }
-        // On every disk: what is read is an entry in range, and its frame is passed over.
-        ensures advances { Advances result self.old.gate self.new.gate }
-        ensures limit { self.new.limit ≡ self.old.limit }
-    {
-        match frame_of(alloc, &mut self.disk, self.gate, end)? {
-            Some((entry, gate)) => {
-                self.gate = gate;
-                Ok(Some(entry))
-            }
-            None => Ok(None),
-        }
     }
 
     /// Reads the entry at the gate through a window of the file, or returns `None` if the gate is not open.

@@ -1,134 +1,35 @@
-// Reading a frame of a journal file that is on a disk.
-ghost use Rattle.std.specs.Prelude.{◌≡◌, ◌+◌, ◌<◌, ◌≤◌, ◌^◌, IsTrue, IsErrOf, length, get_or, IfOk, IfSome, OnOk};
-ghost use Rattle.office_base.specs.Faults.{HasCause};
+// Reading a frame of a journal file.
+ghost use Rattle.std.specs.Prelude.{◌≡◌, ◌+◌, ◌<◌, ◌≤◌, ◌^◌, IsTrue, IsErrOf, length, IfOk, IfSome};
+ghost use Rattle.entry_codec.specs.Reading.{entry_of};
 ghost use Rattle.entry_codec.specs.Spelling.{EntryFits, entry_limit, spelling};
 ghost use Rattle.disk_core.specs.Moments.{OnlyReads};
-ghost use Rattle.meter_journal.specs.Reading.{body_at, frame_at, size_at, entry_frame_at, BodyGives, FrameGives};
-ghost use Rattle.meter_journal.specs.Reading.{HasStoreCause};
+ghost use Rattle.meter_journal.specs.Reading.{body_at, frame_at, size_at, entry_frame, entry_frame_at};
+ghost use Rattle.meter_journal.specs.Reading.{BodyGives, FrameGives, HasStoreCause};
 ghost use Rattle.meter_journal.specs.Windows.{IsPart};
 
-use crate::bytes::entry_in;
 use crate::fault::OpenFault;
 use crate::gate::OPEN;
 use crate::window::Window;
-use disk_core::{Disk, Failed, FileNo};
-use entry_codec::ENTRY_LIMIT;
+use disk_core::Disk;
+use entry_codec::{ENTRY_LIMIT, EntryFault, decode};
 use office_types::Entry;
 use std::alloc::Global;
-
-fn byte_at<D: Disk>(disk: &mut D, at: u64) -> Result<u8, Failed>
-    requires { IsTrue D.tells → at < length (D.state disk.old).journal.seen }
-    ensures byte { IsTrue D.tells → IfOk result (λ b. b ≡ get_or (D.state disk.old).journal.seen at 0) }
-    ensures untouched { OnlyReads D.Disk disk.old disk.new }
-    ensures cause { HasCause (D.fault_count disk.old) (D.fault_count disk.new) result }
-    ensures quiet { OnOk result (D.fault_count disk.new ≡ D.fault_count disk.old) }
-{
-    let mut room = [0];
-    disk.read_at(FileNo::Journal, at, &mut room)?;
-    Ok(room[0])
-}
-
-fn size_of<D: Disk>(disk: &mut D, gate: u64) -> Result<u32, Failed>
-    requires small { gate < 2 ^ 46 }
-    requires inside { IsTrue D.tells → gate + 5 ≤ length (D.state disk.old).journal.seen }
-    ensures size { IsTrue D.tells → IfOk result (λ n. n ≡ size_at gate (D.state disk.old).journal.seen) }
-    ensures untouched { OnlyReads D.Disk disk.old disk.new }
-    ensures cause { HasCause (D.fault_count disk.old) (D.fault_count disk.new) result }
-    ensures quiet { OnOk result (D.fault_count disk.new ≡ D.fault_count disk.old) }
-{
-    let mut room = [0; 4];
-    disk.read_at(FileNo::Journal, gate + 1, &mut room)?;
-    Ok(u32::from_be_bytes(room))
-}
-
-fn entry_of<D: Disk>(
-    alloc: Global,
-    disk: &mut D,
-    gate: u64,
-    size: u64,
-) -> Result<(Entry, u64), OpenFault>
-    requires small { gate + size < 2 ^ 46 }
-    requires inside { IsTrue D.tells → gate + 5 + size ≤ length (D.state disk.old).journal.seen }
-    ensures exact { IsTrue D.tells → BodyGives result gate (entry_frame_at gate size (D.state disk.old).journal.seen) }
-    ensures place { IfOk result (λ x. x.1 ≡ gate + 5 + size) }
-    ensures spelled { IfOk result (λ x. EntryFits x.0 × (x.1 ≡ gate + 5 + length (spelling x.0))) }
-    ensures untouched { OnlyReads D.Disk disk.old disk.new }
-    ensures cause { HasStoreCause (D.fault_count disk.old) (D.fault_count disk.new) result }
-{
-    let mut room = vec![in alloc; 0u8; size as usize]?;
-    if disk
-        .read_at(FileNo::Journal, gate + 5, room.as_mut_slice())
-        .is_err()
-    {
-        return Err(OpenFault::StoreFault);
-    }
-    entry_in(alloc, gate, &room)
-}
 
 // No frame ends past this place.
 const MAX: u64 = 1 << 45;
 
-#[tactic(auto, unfolding(crate::specs::Reading::body_at))]
-fn body_of<D: Disk>(
-    alloc: Global,
-    disk: &mut D,
-    gate: u64,
-    end: u64,
-) -> Result<(Entry, u64), OpenFault>
-    requires inside { gate < end }
-    requires known { IsTrue D.tells → end ≡ length (D.state disk.old).journal.seen }
-    ensures exact { IsTrue D.tells → BodyGives result gate (body_at gate (D.state disk.old).journal.seen) }
-    ensures rises { IfOk result (λ x. (gate < x.1) × (x.1 ≤ 2 ^ 45)) }
+// The entry that these bytes after a gate spell, and the place of the next gate.
+fn entry_in(alloc: Global, gate: u64, bytes: &[u8]) -> Result<(Entry, u64), OpenFault>
+    requires { gate + 5 + length bytes.now < 2 ^ 64 }
+    ensures exact { BodyGives result gate (entry_frame (gate + 5 + length bytes.now) (entry_of bytes.now)) }
+    ensures told { IsErrOf result OpenFault.StoreFault → ⊥ }
+    ensures place { IfOk result (λ x. x.1 ≡ gate + 5 + length bytes.now) }
     ensures spelled { IfOk result (λ x. EntryFits x.0 × (x.1 ≡ gate + 5 + length (spelling x.0))) }
-    ensures memory { IsTrue D.tells → IsErrOf result OpenFault.NoMemory
-        → size_at gate (D.state disk.old).journal.seen ≤ entry_limit }
-    ensures untouched { OnlyReads D.Disk disk.old disk.new }
-    ensures cause { HasStoreCause (D.fault_count disk.old) (D.fault_count disk.new) result }
 {
-    if end - gate < 5 || gate > MAX {
-        return Err(OpenFault::Damaged { offset: gate });
-    }
-    let Ok(size) = size_of(disk, gate) else {
-        return Err(OpenFault::StoreFault);
-    };
-    let size = size as u64;
-    if end < gate + 6 + size || MAX < gate + 6 + size {
-        return Err(OpenFault::Damaged { offset: gate });
-    }
-    if ENTRY_LIMIT < size {
-        return Err(OpenFault::Damaged { offset: gate });
-    }
-    entry_of(alloc, disk, gate, size)
-}
-
-// Reads the frame at a gate of a file of this length.
-#[tactic(auto, unfolding(crate::specs::Reading::frame_at))]
-pub(crate) fn frame_of<D: Disk>(
-    alloc: Global,
-    disk: &mut D,
-    gate: u64,
-    end: u64,
-) -> Result<Option<(Entry, u64)>, OpenFault>
-    requires known { IsTrue D.tells → end ≡ length (D.state disk.old).journal.seen }
-    ensures exact { IsTrue D.tells → FrameGives result gate (frame_at gate (D.state disk.old).journal.seen) }
-    ensures rises { IfOk result (λ read. IfSome read (λ x. (gate < x.1) × (x.1 ≤ 2 ^ 45))) }
-    ensures spelled { IfOk result
-        (λ read. IfSome read (λ x. EntryFits x.0 × (x.1 ≡ gate + 5 + length (spelling x.0)))) }
-    ensures memory { IsTrue D.tells → IsErrOf result OpenFault.NoMemory
-        → size_at gate (D.state disk.old).journal.seen ≤ entry_limit }
-    ensures untouched { OnlyReads D.Disk disk.old disk.new }
-    ensures cause { HasStoreCause (D.fault_count disk.old) (D.fault_count disk.new) result }
-{
-    if end <= gate {
-        return Err(OpenFault::Damaged { offset: gate });
-    }
-    match byte_at(disk, gate) {
-        Err(_) => Err(OpenFault::StoreFault),
-        Ok(OPEN) => {
-            let read = body_of(alloc, disk, gate, end)?;
-            Ok(Some(read))
-        }
-        Ok(_) => Ok(None),
+    match decode(alloc, bytes) {
+        Ok(entry) => Ok((entry, gate + 5 + bytes.len() as u64)),
+        Err(EntryFault::BadEntry { .. }) => Err(OpenFault::Damaged { offset: gate }),
+        Err(EntryFault::NoMemory) => Err(OpenFault::NoMemory),
     }
 }
 

@@ -6,7 +6,7 @@ ghost use Rattle.meter_journal.specs.History.{IsAtRest};
 use disk_core::{Disk, FileNo, MemoryDisk};
 use entry_codec::encode;
 use meter_journal::{
-    AppendFault, Journal, Made, OpenFault, Opening, create, frame, made, read_all,
+    AppendFault, Journal, Made, OpenFault, Window, create, frame_in, measure, read_all,
 };
 use moments::Moment;
 use office_base::BucketName;
@@ -79,6 +79,33 @@ const FOREIGN: &[u8] = &[
     0x37, 0x4D, 0x45, 0x54, 0x45, 0x52, 0x4A, 0x52, 0x4E, 0x31, 0, 0,
 ];
 
+// Opens a journal of at most one entry again, and reads it up to its end gate.
+fn read_again<D: Disk>(alloc: Global, journal: &mut Journal<D>) -> Result<Option<Entry>, OpenFault>
+    ensures { IsTrue D.honest → OnOk result ((head : List ℕ) × (entries : List Entry)
+        × IsAtRest head (D.state journal.new.disk) journal.new.gate entries) }
+{
+    let mut window = Window::new(alloc)?;
+    let end = match journal.open(None) {
+        Ok(end) => end,
+        Err(fault) => return Err(fault),
+    };
+    let first = match journal.next_in(alloc, end, &mut window) {
+        Ok(first) => first,
+        Err(fault) => return Err(fault),
+    };
+    let Some(entry) = first else {
+        return Ok(None);
+    };
+    let second = match journal.next_in(alloc, end, &mut window) {
+        Ok(second) => second,
+        Err(fault) => return Err(fault),
+    };
+    match second {
+        None => Ok(Some(entry)),
+        Some(_) => Err(OpenFault::Damaged { offset: 30 }),
+    }
+}
+
 // A journal without entries, already read.
 fn empty_journal<D: Disk + Drop>(
     alloc: Global,
@@ -89,43 +116,11 @@ fn empty_journal<D: Disk + Drop>(
     ensures { IsTrue D.honest → IfOk result (λ j. (head : List ℕ) × (entries : List Entry)
         × IsAtRest head (D.state j.disk) j.gate entries) }
 {
-    let mut opening = match Opening::begin(disk, limit, None) {
-        Ok(opening) => opening,
-        Err((fault, _)) => return Err(fault),
-    };
-    let read = match opening.next(alloc) {
-        Ok(read) => read,
-        Err(fault) => return Err(fault),
-    };
-    match read {
-        None => Ok(opening.ready()),
-        Some(_) => Err(OpenFault::Damaged { offset: 10 }),
-    }
-}
-
-// Opens a journal of at most one entry again, and reads it up to its end gate.
-fn read_again<D: Disk>(alloc: Global, journal: &mut Journal<D>) -> Result<Option<Entry>, OpenFault>
-    ensures { IsTrue D.honest → OnOk result ((head : List ℕ) × (entries : List Entry)
-        × IsAtRest head (D.state journal.new.disk) journal.new.gate entries) }
-{
-    let end = match journal.open(None) {
-        Ok(end) => end,
-        Err(fault) => return Err(fault),
-    };
-    let first = match journal.next(alloc, end) {
-        Ok(first) => first,
-        Err(fault) => return Err(fault),
-    };
-    let Some(entry) = first else {
-        return Ok(None);
-    };
-    let second = match journal.next(alloc, end) {
-        Ok(second) => second,
-        Err(fault) => return Err(fault),
-    };
-    match second {
-        None => Ok(Some(entry)),
-        Some(_) => Err(OpenFault::Damaged { offset: 30 }),
+    let mut journal = Journal::over(disk, limit);
+    match read_again(alloc, &mut journal) {
+        Ok(None) => Ok(journal),
+        Ok(Some(_)) => Err(OpenFault::Damaged { offset: 10 }),
+        Err(fault) => Err(fault),
     }
 }
 
@@ -273,17 +268,25 @@ fn told_by(entry: &Entry) -> Told {
 }
 
 // What the frame at a gate holds: its moment, what its entry does, and the next gate; none if the gate is closed.
-fn told_at(alloc: Global, file: &[u8], gate: u64) -> Result<Option<(u64, Told, u64)>, OpenFault> {
-    match frame(alloc, file, gate) {
+fn told_at<D: Disk>(
+    alloc: Global,
+    disk: &mut D,
+    gate: u64,
+) -> Result<Option<(u64, Told, u64)>, OpenFault> {
+    let mut window = Window::new(alloc)?;
+    let Ok(end) = disk.length(FileNo::Journal) else {
+        return Err(OpenFault::StoreFault);
+    };
+    match frame_in(alloc, disk, gate, end, &mut window) {
         Ok(Some((entry, next))) => Ok(Some((entry.moment.ms(), told_by(&entry), next))),
         Ok(None) => Ok(None),
         Err(fault) => Err(fault),
     }
 }
 
-// A file, and whether it is a journal.
-const HEADS: &[(&[u8], Result<(), OpenFault>)] = &[
-    (EMPTY, Ok(())),
+// A file, and its length if it is a journal.
+const HEADS: &[(&[u8], Result<u64, OpenFault>)] = &[
+    (EMPTY, Ok(11)),
     (NO_GATE, Err(OpenFault::NotMade)),
     (CLOSED, Err(OpenFault::NotMade)),
     (FOREIGN, Err(OpenFault::Foreign)),
@@ -309,10 +312,16 @@ const FRAMES: &[(&[u8], u64, Result<Option<(u64, Told, u64)>, OpenFault>)] = &[
 fn a_file_is_what_its_bytes_say(rt: HostRuntime) -> Result<(), Fail> {
     let alloc = rt.alloc();
     for (file, head) in HEADS {
-        assert_eq!(rt; made(*file), *head, "{file:?}");
+        let mut disk = file_of(alloc, *file)?;
+        assert_eq!(rt; measure(&mut disk), *head, "{file:?}");
     }
     for (file, gate, frame) in FRAMES {
-        assert_eq!(rt; told_at(alloc, *file, *gate), *frame, "{file:?} at {gate}");
+        let mut disk = file_of(alloc, *file)?;
+        assert_eq!(rt;
+            told_at(alloc, &mut disk, *gate),
+            *frame,
+            "{file:?} at {gate}"
+        );
     }
     for file in &[LONG, HUGE] {
         let disk = file_of(alloc, *file)?;
