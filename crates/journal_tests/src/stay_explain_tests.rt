@@ -1,4 +1,5 @@
 use class_rules::Class;
+use disk_core::{Disk, FileNo, MemoryDisk};
 use entry_codec::encode;
 use meter_journal::OpenFault;
 use moments::Moment;
@@ -223,14 +224,22 @@ fn is_table(
     Ok(())
 }
 
+// A disk with a journal of these bytes, of which this call fails; the first one writes them.
+fn disk_of(alloc: Global, bytes: &[u8], failing: u64) -> Result<MemoryDisk, Fail> {
+    let mut disk = MemoryDisk::new(alloc, vec![in alloc; failing]?);
+    disk.write_at(FileNo::Journal, 0, bytes)?;
+    Ok(disk)
+}
+
 // The table of a journal, made by this many workers, from 1 to 64.
 fn explained(
     rt: &(impl Threads + Sync),
     alloc: Global,
     bytes: &[u8],
     workers: u32,
-) -> Result<Vec<u8>, OpenFault> {
-    explain(rt, alloc, bytes, workers.clamp(1, 64))
+) -> Result<Vec<u8>, Fail> {
+    let mut disk = disk_of(alloc, bytes, 0)?;
+    Ok(explain(rt, alloc, &mut disk, workers.clamp(1, 64))?)
 }
 
 // Commands, each this many milliseconds after New Year, and the lines of the table.
@@ -364,9 +373,15 @@ fn tables(rt: HostRuntime) -> Result<(), Fail> {
     Ok(())
 }
 
-// The fault of a journal.
-fn fault_of(rt: &(impl Threads + Sync), alloc: Global, bytes: &[u8]) -> Option<OpenFault> {
-    explained(rt, alloc, bytes, 4).err()
+// The fault of a journal, on a disk of which a call fails.
+fn fault_of(
+    rt: &(impl Threads + Sync),
+    alloc: Global,
+    bytes: &[u8],
+    failing: u64,
+) -> Result<Option<OpenFault>, Fail> {
+    let mut disk = disk_of(alloc, bytes, failing)?;
+    Ok(explain(rt, alloc, &mut disk, 4).err())
 }
 
 // Two commands, the second of which the office does not accept, and the gate of its entry.
@@ -389,16 +404,33 @@ const REFUSED: &[(&[(u64, Wish<'static>)], u64)] = &[
     ),
 ];
 
+// The call of the disk that fails, and the fault of a journal of two entries. Call 2 reads its length, call 3 its head,
+// and call 4 all its frames.
+const FAILED: &[(u64, Option<OpenFault>)] = &[
+    (2, Some(OpenFault::StoreFault)),
+    (3, Some(OpenFault::StoreFault)),
+    (4, Some(OpenFault::StoreFault)),
+    (5, None),
+];
+
 #[test]
 fn faults(rt: HostRuntime) -> Result<(), Fail> {
     let alloc = rt.alloc();
-    assert_eq!(rt; fault_of(&rt, alloc, &[]), Some(OpenFault::NotMade));
+    assert_eq!(rt; fault_of(&rt, alloc, &[], 0)?, Some(OpenFault::NotMade));
     let other = b"another file of another kind";
-    assert_eq!(rt; fault_of(&rt, alloc, other), Some(OpenFault::Foreign));
+    assert_eq!(rt; fault_of(&rt, alloc, other, 0)?, Some(OpenFault::Foreign));
     for (wishes, offset) in REFUSED {
         let bytes = journal(alloc, *wishes)?;
         let damaged = Some(OpenFault::Damaged { offset: *offset });
-        assert_eq!(rt; fault_of(&rt, alloc, &bytes), damaged, "{wishes:?}");
+        assert_eq!(rt; fault_of(&rt, alloc, &bytes, 0)?, damaged, "{wishes:?}");
+    }
+    let two = journal(alloc, &[(0, Wish::Make("logs")), (0, Wish::Make("barn"))])?;
+    for (failing, fault) in FAILED {
+        assert_eq!(rt;
+            fault_of(&rt, alloc, &two, *failing)?,
+            *fault,
+            "call {failing}"
+        );
     }
     Ok(())
 }

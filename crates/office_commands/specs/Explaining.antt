@@ -4,19 +4,11 @@ use Rattle.disk_core.specs.declared.disk.Disk as disks
 use Rattle.disk_core.specs.Fronts.{Narrower}
 use Rattle.disk_core.specs.Moments.{KeepsTo, WritesNothing}
 use Rattle.desk_core.specs.declared.clock.Clock as clocks
-use Rattle.stay_explain.specs.Explaining.{IsTableOf}
+use Rattle.stay_explain.specs.Explaining.{ReadsTable}
 use Rattle.http_front.specs.declared.replies.Replies as sinks
 use Rattle.meter_journal.specs.declared.fault.OpenFault.{OpenFault}
 use Rattle.desk_core.specs.Damage.{OpenFails}
 use Rattle.office_commands.specs.Running.{Surroundings, IsPutOut, IsRefused}
-
-module _ {D : Type 0} (d : disks.Ghosts D) where
-  -- What was read is the journal file, and the text is the table of stays of its history. On a disk whose state is
-  -- unknown, the text is still the table of some journal.
-  pub record ReadsTable (disk : D) (text : List ℕ) : Type 0 where
-    pub file : List ℕ
-    pub seen : IsTrue d.tells → file ≡ (d.state disk).journal.seen
-    pub table : IsTableOf file text
 
 module _ {D C W : Type 0} (d : disks.Ghosts D) (k : clocks.Ghosts C) (w : sinks.Ghosts W) where
   -- The output is the table of stays of the journal's history, from which a bill can be checked by hand (own). Nothing

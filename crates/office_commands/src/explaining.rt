@@ -1,14 +1,11 @@
 // Printing the table of stays.
-ghost use Rattle.std.specs.Prelude.{◌≡◌, ◌≤◌, ◌<◌, List, IfOk, IfErr, IsTrue};
+ghost use Rattle.std.specs.Prelude.{◌≡◌, ◌≤◌, List, IsTrue};
 ghost use Rattle.office_base.specs.Faults.{Rose};
-ghost use Rattle.meter_journal.specs.Reading.{HasStoreCause};
-ghost use Rattle.disk_core.specs.Moments.{OnlyReads};
 ghost use Rattle.office_types.specs.declared.command.Entry.{Entry};
-ghost use Rattle.desk_core.specs.Damage.{OpenFails};
 ghost use Rattle.desk_core.specs.Histories.{HasAcceptedHistory};
 ghost use Rattle.office_commands.specs.Lines.{IsRunExit};
 ghost use Rattle.office_commands.specs.Running.{around, SaysNoReply, NotesNothing};
-ghost use Rattle.office_commands.specs.Explaining.{Explains, ReadsTable};
+ghost use Rattle.office_commands.specs.Explaining.{Explains};
 
 use crate::end::End;
 use crate::running::refuse;
@@ -16,27 +13,9 @@ use crate::saying::say;
 use desk_core::Clock;
 use disk_core::Disk;
 use http_front::Replies;
-use meter_journal::{OpenFault, read_all};
 use stay_explain::explain;
 use std::alloc::Global;
 use std::thread::Threads;
-
-// Reads the journal, and returns the table of its stays.
-fn table<D: Disk, R: Threads + Sync>(
-    rt: &R,
-    alloc: Global,
-    disk: &mut D,
-    workers: u32,
-) -> Result<Vec<u8>, OpenFault>
-    requires few { (1 ≤ workers) × (workers ≤ 64) }
-    ensures table { IfOk result (λ text. ReadsTable D.Disk disk.old text.items) }
-    ensures fails { IsTrue D.tells → IfErr result (λ fault. OpenFails fault (D.state disk.old).journal.seen) }
-    ensures untouched { OnlyReads D.Disk disk.old disk.new }
-    ensures cause { HasStoreCause (D.fault_count disk.old) (D.fault_count disk.new) result }
-{
-    let bytes = read_all(alloc, disk)?;
-    explain(rt, alloc, &bytes, workers)
-}
 
 /// Does `explain`: reads the journal, and prints the table of its stays, made by up to this many threads.
 ///
@@ -62,7 +41,7 @@ pub fn stays<W: Replies, D: Disk + Drop, C: Clock + Drop, R: Threads + Sync>(
     ensures only { (result.status ≡ 3 → ⊥) × ((result.status ≡ 7 → ⊥) × (result.status ≡ 9 → ⊥)) }
     ensures unnoted { result.status ≡ 0 → NotesNothing W.Replies out.old out.new }
 {
-    match table(rt, alloc, &mut disk, workers) {
+    match explain(rt, alloc, &mut disk, workers) {
         Ok(text) => {
             let status = say(out, &text);
             End {

@@ -1,17 +1,18 @@
 // Explains a journal.
-ghost use Rattle.std.specs.Prelude.{◌<◌, ◌≤◌, ◌++◌, ◌∷◌, [], List, IfErr, IfOk, OnOk, IsErrOf};
+ghost use Rattle.std.specs.Prelude.{◌≡◌, ◌<◌, ◌≤◌, ◌++◌, ◌∷◌, [], length, List, IsTrue, IfErr, IfOk, OnOk};
 ghost use Rattle.office_types.specs.Tokens.{MayCarry};
 ghost use Rattle.office_types.specs.declared.command.Entry.{Entry};
-ghost use Rattle.meter_journal.specs.History.{HasHistory};
-ghost use Rattle.meter_journal.specs.Reading.{IsMade};
+ghost use Rattle.disk_core.specs.Moments.{OnlyReads};
+ghost use Rattle.meter_journal.specs.Reading.{IsMade, HasStoreCause};
 ghost use Rattle.bucket_account.specs.Standing.{most_commands};
 ghost use Rattle.desk_core.specs.Damage.{OpenFails, IsNotTaken};
-ghost use Rattle.stay_explain.specs.Explaining.{IsTableOf};
+ghost use Rattle.stay_explain.specs.Explaining.{ReadsLedger, ReadsTable};
 ghost use Rattle.stay_explain.specs.Ledgers.{IsLedgerOf};
 
 use crate::ledger::Ledger;
 use crate::working::table_text;
-use meter_journal::{OpenFault, frame, made};
+use disk_core::Disk;
+use meter_journal::{OpenFault, Window, frame_in, measure};
 use office_base::NoMemory;
 use office_types::Entry;
 use std::alloc::Global;
@@ -32,18 +33,20 @@ fn take(ledger: &mut Ledger, alloc: Global, entry: Entry, gate: u64) -> Result<(
     ledger.take(alloc, &entry, gate)
 }
 
-/// Reads the entries of a made journal, and books their stays.
-fn read(alloc: Global, journal: &[u8]) -> Result<Ledger, OpenFault>
-    requires made { IsMade journal.now }
-    ensures read { IfOk result (λ ledger. (history : List Entry) × HasHistory history journal.now
-        × IsLedgerOf history ledger) }
-    ensures fails { IfErr result (λ fault. OpenFails fault journal.now) }
-    ensures no_disk { IsErrOf result OpenFault.StoreFault → ⊥ }
+/// Reads the entries of a made journal, whose file has this length, and books their stays.
+fn read<D: Disk>(alloc: Global, disk: &mut D, end: u64) -> Result<Ledger, OpenFault>
+    requires known { IsTrue D.tells → end ≡ length (D.state disk.old).journal.seen }
+    requires made { IsTrue D.tells → IsMade (D.state disk.old).journal.seen }
+    ensures read { IfOk result (λ ledger. ReadsLedger D.Disk disk.old ledger) }
+    ensures fails { IsTrue D.tells → IfErr result (λ fault. OpenFails fault (D.state disk.old).journal.seen) }
+    ensures untouched { OnlyReads D.Disk disk.old disk.new }
+    ensures cause { HasStoreCause (D.fault_count disk.old) (D.fault_count disk.new) result }
 {
+    let mut window = Window::new(alloc)?;
     let mut ledger = Ledger::new(alloc);
     let mut gate = FIRST;
     'reading: loop {
-        match frame(alloc, journal, gate) {
+        match frame_in(alloc, disk, gate, end, &mut window) {
             Ok(Some((entry, next))) => {
                 if let Err(fault) = take(&mut ledger, alloc, entry, gate) {
                     return Err(fault);
@@ -60,27 +63,26 @@ fn read(alloc: Global, journal: &[u8]) -> Result<Ledger, OpenFault>
 ///
 /// Buckets are in byte order of their names, and the stays of a bucket are in the order in which they were opened. A
 /// stay's own line comes before its line in STANDARD. `workers` is how many threads may print buckets at once; the
-/// table is the same for every number.
+/// table is the same for every number. Nothing is written.
 ///
 /// # Errors
 ///
-/// `NotMade`, `Foreign` and `Damaged`: as at the opening of a desk over these bytes. `NoMemory`: memory ran out.
-pub fn explain<R: Threads + Sync>(
+/// `NotMade`, `Foreign` and `Damaged`: as at the opening of a desk over this file, if it is read from its first gate.
+/// `StoreFault`: a call of the disk failed. `NoMemory`: memory ran out.
+pub fn explain<D: Disk, R: Threads + Sync>(
     rt: &R,
     alloc: Global,
-    journal: &[u8],
+    disk: &mut D,
     workers: u32,
 ) -> Result<Vec<u8>, OpenFault>
     requires workers { (1 ≤ workers) × (workers ≤ 64) }
-    ensures table { IfOk result (λ text. IsTableOf journal.now text.items) }
-    ensures fault { IfErr result (λ fault. OpenFails fault journal.now) }
-    // No disk is read.
-    ensures no_disk { IsErrOf result OpenFault.StoreFault → ⊥ }
+    ensures table { IfOk result (λ text. ReadsTable D.Disk disk.old text.items) }
+    ensures fault { IsTrue D.tells → IfErr result (λ fault. OpenFails fault (D.state disk.old).journal.seen) }
+    ensures untouched { OnlyReads D.Disk disk.old disk.new }
+    ensures cause { HasStoreCause (D.fault_count disk.old) (D.fault_count disk.new) result }
 {
-    if let Err(fault) = made(journal) {
-        return Err(fault);
-    }
-    let ledger = read(alloc, journal)?;
+    let end = measure(disk)?;
+    let ledger = read(alloc, disk, end)?;
     match table_text(rt, alloc, ledger.tables(), workers) {
         Ok(text) => Ok(text),
         Err(NoMemory) => Err(OpenFault::NoMemory),

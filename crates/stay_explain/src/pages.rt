@@ -1,8 +1,9 @@
 // The pages of the table. A page has the stays of some buckets that follow one another, and one worker prints it.
 ghost use Rattle.std.specs.Prelude.{◌≡◌, ◌≤◌, ◌++◌, ◌∷◌, [], IfOk, OnOk};
-ghost use Rattle.stay_explain.specs.Pages.{rows_csv, tables_of};
+ghost use Rattle.stay_explain.specs.Pages.{tables_of};
+ghost use Rattle.stay_explain.specs.Table.{tables_csv};
 
-use crate::printing::rows_text;
+use crate::printing::page_text;
 use crate::row::Row;
 use crate::stays::Stays;
 use crate::table::Table;
@@ -12,7 +13,7 @@ use std::collections::BTreeMap;
 use std::marker::Model;
 use std::mem;
 
-/// A page: the tables of some buckets that follow one another, and the text of their rows once it is printed.
+/// A page: the tables of some buckets that follow one another, and their text with a header once it is printed.
 #[derive(Drop)]
 pub(crate) struct Page<'a> {
     tables: Vec<Table<'a>>,
@@ -23,13 +24,13 @@ pub(crate) struct Page<'a> {
 impl<'a> Model for Page<'a> {
     ghost use Rattle.std.specs.Prelude.{◌≡◌, IfSome};
     ghost use Rattle.stay_explain.specs.Ledgers.{Tables};
-    ghost use Rattle.stay_explain.specs.Pages.{rows_csv};
+    ghost use Rattle.stay_explain.specs.Table.{tables_csv};
 
     ghost Value = { Tables };
 
     ghost view = { λ p. p.tables.items };
 
-    ghost invariant = { λ p. IfSome p.text (λ text. text.items ≡ rows_csv p.tables.items) };
+    ghost invariant = { λ p. IfSome p.text (λ text. text.items ≡ tables_csv p.tables.items) };
 }
 
 impl<'a> Page<'a> {
@@ -39,24 +40,47 @@ impl<'a> Page<'a> {
         Page { tables, text: None }
     }
 
-    /// Prints the rows of the tables.
+    /// Prints the header and the rows of the tables.
     pub(crate) fn print(&mut self, alloc: Global)
         ensures { self.new ≡ self.old }
     {
-        self.text = rows_text(alloc, &self.tables).ok();
+        self.text = page_text(alloc, &self.tables).ok();
     }
 
-    /// Reads the rows of a page that was printed.
+    /// Reads the text of a page that was printed.
     ///
     /// # Errors
     ///
     /// `NoMemory`: memory ran out when it was printed.
     pub(crate) fn text(&self) -> Result<&[u8], NoMemory>
-        ensures { IfOk result (λ rows. rows.now ≡ rows_csv self.now) }
+        ensures { IfOk result (λ text. text.now ≡ tables_csv self.now) }
     {
         match &self.text {
-            Some(rows) => Ok(rows.as_slice()),
+            Some(text) => Ok(text.as_slice()),
             None => Err(NoMemory),
+        }
+    }
+
+    /// Gives the text of a page that was printed.
+    ///
+    /// # Errors
+    ///
+    /// `NoMemory`: memory ran out when it was printed.
+    pub(crate) fn into_text(self) -> Result<Vec<u8>, NoMemory>
+        ensures { IfOk result (λ text. text.items ≡ tables_csv self.entry) }
+    {
+        let Page { text, .. } = self;
+        match text {
+            Some(text) => Ok(text),
+            None => Err(NoMemory),
+        }
+    }
+
+    /// Counts the bytes of the text; 0 if there is none.
+    pub(crate) fn size(&self) -> usize {
+        match &self.text {
+            Some(text) => text.len(),
+            None => 0,
         }
     }
 }

@@ -6,8 +6,7 @@ ghost use Rattle.csv.specs.Writing.{default_writer, row_text};
 ghost use Rattle.stay_explain.specs.Rows.{item_of, booked_of};
 ghost use Rattle.csv_sheet.specs.Sheets.{IsAtRowStart, bytes_written};
 ghost use Rattle.stay_explain.specs.Table.{end_text, stays_header, item_text, stay_row};
-ghost use Rattle.stay_explain.specs.Table.{stay_rows, table_rows};
-ghost use Rattle.stay_explain.specs.Pages.{rows_csv};
+ghost use Rattle.stay_explain.specs.Table.{stay_rows, table_rows, tables_csv};
 
 use crate::row::{Item, Row};
 use crate::table::Table;
@@ -196,11 +195,12 @@ pub(crate) fn header_text(alloc: Global) -> Result<Vec<u8>, NoMemory>
     finish(sheet)
 }
 
-/// Prints the stays of these buckets, without a header.
-pub(crate) fn rows_text(alloc: Global, tables: &[Table<'_>]) -> Result<Vec<u8>, NoMemory>
-    ensures { IfOk result (λ text. text.items ≡ rows_csv tables.now) }
+/// Prints the header, and then the stays of these buckets.
+pub(crate) fn page_text(alloc: Global, tables: &[Table<'_>]) -> Result<Vec<u8>, NoMemory>
+    ensures { IfOk result (λ text. text.items ≡ tables_csv tables.now) }
 {
     let mut sheet = start(alloc);
+    put_header(&mut sheet)?;
     for table in tables {
         put_table(&mut sheet, alloc, table)?;
     }

@@ -1,7 +1,8 @@
 // Prints the table with threads.
-ghost use Rattle.std.specs.Prelude.{◌≡◌, ◌≤◌, IfOk};
-ghost use Rattle.stay_explain.specs.Pages.{tables_of};
-ghost use Rattle.stay_explain.specs.Table.{tables_csv};
+ghost use Rattle.std.specs.Prelude.{◌≡◌, ◌≤◌, ◌++◌, IfOk, OnOk};
+ghost use Rattle.csv.specs.Writing.{default_writer, row_text};
+ghost use Rattle.stay_explain.specs.Pages.{rows_csv, tables_of};
+ghost use Rattle.stay_explain.specs.Table.{stays_header, tables_csv};
 
 use crate::pages::{Page, divide};
 use crate::printing::header_text;
@@ -21,18 +22,41 @@ fn print_all<R: Threads + Sync>(rt: &R, alloc: Global, pages: &mut [Page<'_>], w
     thread::for_each_mut(rt, pages, threads, &|_, page| page.print(alloc));
 }
 
-/// Joins the header and the pages, in their order.
-#[tactic(auto, using(crate::proofs::Bindings::header_first))]
-fn bind(alloc: Global, pages: &[Page<'_>]) -> Result<Vec<u8>, NoMemory>
-    ensures { IfOk result (λ text. text.items ≡ tables_csv (tables_of pages.now)) }
+/// How many bytes the texts of these pages have together.
+fn size_of(pages: &[Page<'_>]) -> usize {
+    pages
+        .iter()
+        .fold(0, |sum: usize, page| sum.saturating_add(page.size()))
+}
+
+/// Adds the rows of these pages, which have this header, to a text.
+fn add_rows(text: &mut Vec<u8>, header: &[u8], pages: &[Page<'_>]) -> Result<(), NoMemory>
+    requires { header.now ≡ row_text default_writer stays_header }
+    ensures { OnOk result (text.new.items ≡ text.old.items ++ rows_csv (tables_of pages.now)) }
 {
-    let mut text = header_text(alloc)?;
     for page in pages {
-        let rows = page.text()?;
+        let table = page.text()?;
+        let (_, rows) = table.split_at(header.len());
         if text.extend_from_slice(rows).is_err() {
             return Err(NoMemory);
         }
     }
+    Ok(())
+}
+
+/// Joins the pages in their order, under one header. The text of the first page is taken over, and the memory for the
+/// others is taken at once.
+fn bind(alloc: Global, mut pages: Vec<Page<'_>>) -> Result<Vec<u8>, NoMemory>
+    ensures { IfOk result (λ text. text.items ≡ tables_csv (tables_of pages.entry.items)) }
+{
+    let header = header_text(alloc)?;
+    if pages.is_empty() {
+        return Ok(header);
+    }
+    let first = pages.remove(0);
+    let mut text = first.into_text()?;
+    text.reserve_exact(size_of(&pages))?;
+    add_rows(&mut text, &header, &pages)?;
     Ok(text)
 }
 
@@ -49,5 +73,5 @@ pub(crate) fn table_text<R: Threads + Sync>(
 {
     let mut pages = divide(alloc, tables, workers)?;
     print_all(rt, alloc, pages.as_mut_slice(), workers);
-    bind(alloc, &pages)
+    bind(alloc, pages)
 }

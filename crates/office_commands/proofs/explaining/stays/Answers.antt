@@ -11,7 +11,7 @@ use Rattle.office_commands.proofs.explaining.stays.Goals as goal
 
 pub returns-in-Ok-clause-explains : goal.returns-in-Ok-clause-explains
 returns-in-Ok-clause-explains g c =
-    let reads = c.table.ensures.untouched in
+    let reads = c.explain.ensures.untouched in
     inl (record {
       text = c.in-Ok.text.items;
       table = c.in-Ok.ensures.table;
@@ -27,11 +27,11 @@ returns-in-Ok-clause-explains g c =
 pub returns-in-Err-clause-explains : goal.returns-in-Err-clause-explains
 returns-in-Err-clause-explains g c =
     let d = g.D.Disk in
-    let reads = c.table.ensures.untouched in
+    let reads = c.explain.ensures.untouched in
     let same = c.refuse.ensures.disk in
     inr (record {
       fault = c.in-Err.fault;
-      why = c.in-Err.ensures.fails;
+      why = c.in-Err.ensures.fault;
       refused = record {
         quiet = λ other. ap d.fault_count same ∙ c.in-Err.ensures.cause.quiet (λ is. other (same_err (Err c.in-Err.fault) c.in-Err.fault StoreFault refl is));
         writes = ap (λ (x : g.row.D.Denot). (d.tally x).writes) same ∙ nothing_written reads;
@@ -47,4 +47,4 @@ returns-in-Err-clause-explains g c =
 pub returns-in-Err-clause-sound : goal.returns-in-Err-clause-sound
 returns-in-Err-clause-sound g c tells history has =
     not_five c.in-Err.fault c.refuse.result.status
-    (opens c.in-Err.fault history (g.D.Disk.state c.args.disk).journal.seen has (c.in-Err.ensures.fails (g.met.D.Disk.honest_tells tells))) c.refuse.ensures.status
+    (opens c.in-Err.fault history (g.D.Disk.state c.args.disk).journal.seen has (c.in-Err.ensures.fault (g.met.D.Disk.honest_tells tells))) c.refuse.ensures.status

@@ -1,4 +1,5 @@
 use Rattle.std.proofs.Common.{◌∙◌, ap}
+use Rattle.disk_core.specs.Files.{State}
 use Rattle.desk_core.proofs.Offices.{run_is}
 use Rattle.stay_explain.specs.Table.{tables_csv}
 use Rattle.stay_explain.proofs.explaining.explain.Goals as goal
@@ -7,9 +8,13 @@ pub returns-in-Ok-clause-table : goal.returns-in-Ok-clause-table
 returns-in-Ok-clause-table g c =
     let read = c.in_ok-ledger.ensures.read in
     record {
-      history = read.0;
-      office = read.2.office.plain;
-      entries = read.1;
-      is_run = run_is read.0 read.2.office.is_run;
-      table = c.in-Ok.ensures ∙ ap tables_csv (c.tables.ensures ∙ read.2.tables);
+      file = read.file;
+      seen = λ told. read.seen told ∙ ap (λ (s : State). s.journal.seen) (c.measure.ensures.untouched.files told).now;
+      table = record {
+        history = read.history;
+        office = read.is.office.plain;
+        entries = read.entries;
+        is_run = run_is read.history read.is.office.is_run;
+        table = c.in-Ok.ensures ∙ ap tables_csv (c.tables.ensures ∙ read.is.tables);
+      };
     }

@@ -1,14 +1,19 @@
-use Rattle.std.proofs.Common.{◌≡◌, ◌++◌, rules}
-use Rattle.stay_explain.specs.Pages.{rows_csv, tables_of}
-use Rattle.stay_explain.specs.Table.{tables_csv}
-use Rattle.stay_explain.proofs.Bindings.{page_bound, all_bound}
+use Rattle.std.proofs.Common.{◌∙◌, sym, rules, arith}
+use Rattle.std.specs.Prelude.{vec_len}
+use Rattle.std.proofs.lemmas.Bool.{eqb-true, eqb-false}
+use Rattle.stay_explain.proofs.Bindings.{none_bound, some_bound}
 use Rattle.stay_explain.proofs.working.bind.Goals as goal
 
-pub loop-page-preserved : goal.loop-page-preserved
-loop-page-preserved c =
-    let grows : c.extend_from_slice.new.self.items ≡ c.loop-page.text.items ++ rows_csv c.page-item.result = search rules in
-    page_bound (tables_csv (tables_of c.args.pages.now)) c.loop-page.text.items c.extend_from_slice.new.self.items c.args.pages.now c.loop-page.page-index c.page-item.result
-    c.loop-page-test.true c.page-item.is grows c.loop-page.invariant
-
 pub returns : goal.returns
-returns c = all_bound (tables_csv (tables_of c.args.pages.now)) c.loop-page.text.items c.args.pages.now c.loop-page.page-index c.loop-page-test.false c.loop-page.invariant
+returns c =
+    let pages = c.args.pages in
+    some_bound pages.items c.remove-first.new.self.items c.remove-first.result c.reserve_exact.new.self.items c.add_rows.new.text.items
+    (omega (arith, pages.ok.0, eqb-false (vec_len pages) 0 (sym c.is_empty.ensures ∙ c.if-is_empty.false)))
+    c.remove-first.ensures.value c.remove-first.ensures.items (c.reserve_exact.ensures.items ∙ c.in_ok-text.ensures)
+    (search rules)
+
+pub returns-then-is_empty : goal.returns-then-is_empty
+returns-then-is_empty c =
+    let pages = c.args.pages in
+    none_bound pages.items c.in_ok-header.header.items
+    (omega (arith, pages.ok.0, eqb-true (vec_len pages) 0 (sym c.is_empty.ensures ∙ c.if-is_empty.true))) c.in_ok-header.ensures
