@@ -1,3 +1,4 @@
+mod Beginning
 mod Carried
 pub mod Done
 mod Obeying

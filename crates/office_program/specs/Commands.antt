@@ -43,7 +43,7 @@ module _ {W : Type 0} (w : sinks.Ghosts W) where
     -- if all was done, nothing is noted and no text is lost
     pub unnoted : status ≡ 0 → NotesNothing w old new
     -- only a run and a forecast read the input, only a server uses the port, and only billing asks the keeper of bills;
-    -- none of them does if the journal was not opened
+    -- none of them does with exit code 5 or 8
     pub unread : (ReadsInput line → ⊥) → input_stays
     pub unused : (IsServe line → ⊥) → port_stays
     pub unbilled : (IsBill line → ⊥) → keeper_stays

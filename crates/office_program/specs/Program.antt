@@ -1,10 +1,10 @@
 -- What the program does with the words after its name: what each clause of `office` says.
-use Rattle.std.specs.Prelude.{◌≡◌, ◌⊎◌, ℕ, List, Option, Some, None, IsSome, IsTrue}
+use Rattle.std.specs.Prelude.{◌≡◌, ◌⊎◌, ℕ, List, [], Option, Some, None, IsSome, IsTrue}
 use Rattle.disk_core.specs.Moments.{KeepsTo}
-use Rattle.meter_journal.specs.Reading.{IsForeign}
+use Rattle.meter_journal.specs.Reading.{IsForeign, IsNotMade}
 use Rattle.office_types.specs.declared.command.Entry.{Entry}
 use Rattle.command_line.specs.Lines.{Line, init, serve, bill, forecast}
-use Rattle.desk_core.specs.Histories.{HasAcceptedHistory, IsSound}
+use Rattle.desk_core.specs.Histories.{HasAcceptedHistory, IsSound, SlotsFit}
 use Rattle.http_wire.specs.Held.{take_limit}
 use Rattle.http_front.specs.Counts.{GaveBytes}
 use Rattle.office_commands.specs.Lines.{usage_note}
@@ -60,6 +60,13 @@ module _ {S D C W P Source Replies K : Type 0} (g : Parts S D C W P Source Repli
   abbrev pub StaysSound : World S D C W P K → World S D C W P K → ℕ → Type 0
   StaysSound old new status = IsTrue g.disk.honest → IsSound (g.disk.state old.disk)
       → (status ≡ 5 → ⊥) × KeepsTo g.disk old.disk new.disk IsSound
+
+  -- On an honest disk without a journal, `init` leaves a sound disk, also if its line was printed only in part. Each slot
+  -- that decodes must be of a journal without entries. In a new folder there is none.
+  abbrev pub BeginsSound : Option Line → World S D C W P K → World S D C W P K → ℕ → Type 0
+  BeginsSound line old new status = IsTrue g.disk.honest → line ≡ Some init
+      → IsNotMade (g.disk.state old.disk).journal.seen → SlotsFit [] (g.disk.state old.disk)
+      → (status ≡ 0) ⊎ (status ≡ 4) → IsSound (g.disk.state new.disk)
 
   -- A command line is done if nothing outside fails and the clock is not at its end. The disk must be sound, or for
   -- `init`, its journal must not be foreign.

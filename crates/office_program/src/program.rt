@@ -4,7 +4,7 @@ ghost use Rattle.http_front.specs.declared.answering.SessionEnd.TheVariants.{NoM
 ghost use Rattle.office_commands.specs.Lines.{usage_note, end_note};
 ghost use Rattle.office_commands.specs.Running.{IsNoted, IsSilent};
 ghost use Rattle.office_program.specs.Commands.{asks};
-ghost use Rattle.office_program.specs.Program.{Obeys, Touches, HasExitCause, StaysSound};
+ghost use Rattle.office_program.specs.Program.{Obeys, Touches, HasExitCause, StaysSound, BeginsSound};
 ghost use Rattle.office_program.specs.Program.{MustBeDone, MustBill, MustForecast};
 ghost use Rattle.office_program.specs.Survival.{Survives};
 ghost use Rattle.office_program.specs.Workers.{IsBalanced};
@@ -75,8 +75,8 @@ fn refuse_line<W: Replies>(out: &mut W, fault: LineFault) -> u8
 ///
 /// - 0 if all was done;
 /// - 1 if the words are not a command line;
-/// - 2 if the disk failed in a call of `init` or of the opening, in a call after which no other ask was answered, or
-/// while the checkpoint was saved;
+/// - 2 if the disk failed in a call of `init` or of the opening, in a read of `explain`, in a call after which no other
+/// ask was answered, or while the checkpoint was saved;
 /// - 3 if the input could not be read;
 /// - 4 if a text could not be written;
 /// - 5 if the journal is not made, foreign or damaged;
@@ -92,9 +92,10 @@ fn refuse_line<W: Replies>(out: &mut W, fault: LineFault) -> u8
 /// - 14 if there is no forecast: the input has more than 1,048,576 bytes or is not a configuration, the day is before
 /// the moment of the forecast, or the office refuses the configuration.
 ///
-/// If several hold, it is the first of 1, 8, 5, 4, 3, 9, 7, 2, 6, 10, 12, 11, 13, 14. After 11, and after 4 of a
-/// `bill`, the month may have been posted, whole and with these bills. It may be billed again. A connection that fails,
-/// or in whose session memory runs out, ends by itself and gives no exit code.
+/// If several hold, it is the one that is found first: 1 or 6 of the words, 8 of the clock, and 5, 2 or 6 of the
+/// opening, of `init` and of `explain`. At the end it is the first of 4, 3, 9, 7, 2, 6, 10, 12, 11, 13, 14. After 11,
+/// and after 4 of a `bill`, the month may have been posted, whole and with these bills. It may be billed again. A
+/// connection that fails, or in whose session memory runs out, ends by itself and gives no exit code.
 pub fn office<S, W, D, C, P, G, K, R>(
     rt: &R,
     alloc: Global,
@@ -152,6 +153,11 @@ where
     // that decodes fits it.
     ensures sound { StaysSound (parts S.Source D.Disk C.Clock W.Replies P.Port (G.let_through gate.now) K.BillKeeper)
         (world disk clock out.old input.old port.old keeper.old)
+        (world result.disk result.clock out.new input.new port.new keeper.new) result.status }
+
+    // From `init` on an honest disk is sound, if it had no journal and no slot that decodes with entries.
+    ensures begins { BeginsSound (parts S.Source D.Disk C.Clock W.Replies P.Port (G.let_through gate.now) K.BillKeeper)
+        (asks words.now) (world disk clock out.old input.old port.old keeper.old)
         (world result.disk result.clock out.new input.new port.new keeper.new) result.status }
 
     // A command line is done if nothing outside fails and the clock is not at its end; a closed month is billed; what
