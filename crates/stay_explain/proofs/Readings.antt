@@ -1,15 +1,14 @@
 -- Reading the entries of a journal.
-use Rattle.std.proofs.Common.{◌≡◌, inl, inr, ℕ, ◌+◌, ◌<◌, ◌≤◌, ◌^◌, Bool, true, false, List, [], ◌∷◌, ◌++◌, length, get_or, refl, sym, ap, ◌∙◌, subst, arith}
+use Rattle.std.proofs.Common.{◌≡◌, inl, inr, ℕ, ◌+◌, ◌<◌, ◌^◌, Bool, true, false, List, [], ◌∷◌, ◌++◌, length, get_or, refl, sym, ◌∙◌, subst, arith}
 use Rattle.std.specs.List.{AllByRecursion}
 use Rattle.std.specs.Prelude.{IsTrue}
 use Rattle.std.proofs.lemmas.Bool.{false≢true}
-use Rattle.office_types.specs.Tokens.{MayCarry}
 use Rattle.office_types.specs.declared.command.Entry.{Entry}
 use Rattle.disk_core.specs.declared.disk.Disk as disks
 use Rattle.entry_codec.specs.Spelling.{EntryFits, spelling}
 use Rattle.bucket_account.specs.Standing.{most_commands}
 use Rattle.meter_journal.specs.History.{header, journal_bytes, end_gate, HasHistory}
-use Rattle.meter_journal.specs.Reading.{IsMade, HasPrefix, FrameFails, frame_at, Frame, Whole, Ended}
+use Rattle.meter_journal.specs.Reading.{IsMade, HasPrefix, FrameFails, frame_at, Whole, Ended}
 use Rattle.meter_journal.proofs.Heads.{made_head}
 use Rattle.meter_journal.proofs.History.{each-push, end_gate-none, end_gate-push}
 use Rattle.meter_journal.proofs.Prefix.{prefix_start, prefix_more, prefix_end}

@@ -1,5 +1,6 @@
 use Rattle.std.proofs.Common.{◌∙◌, ap}
 use Rattle.disk_core.specs.Files.{State}
+use Rattle.disk_core.proofs.Time.{only_reads_then}
 use Rattle.desk_core.proofs.Offices.{run_is}
 use Rattle.stay_explain.specs.Table.{tables_csv}
 use Rattle.stay_explain.proofs.explaining.explain.Goals as goal
@@ -18,3 +19,6 @@ returns-in-Ok-clause-table g c =
         table = c.in-Ok.ensures ∙ ap tables_csv (c.tables.ensures ∙ read.is.tables);
       };
     }
+
+pub returns-clause-untouched : goal.returns-clause-untouched
+returns-clause-untouched g c = only_reads_then c.measure.ensures.untouched c.read.ensures.untouched

@@ -78,3 +78,6 @@ pub returns-in-Err-clause-fails : goal.returns-in-Err-clause-fails
 returns-in-Err-clause-fails g c told =
     frame_fails g.D.Disk c.args.disk.now c.reading.gate c.reading.ledger c.reading.invariant.read told c.in-Err.fault (c.requires.made told)
     (subst (λ (s : State). FrameFails c.in-Err.fault c.reading.gate (frame_at c.reading.gate s.journal.seen)) (c.reading.invariant.untouched.files told).now (c.in-Err.ensures.exact told))
+
+pub returns-in-Err-clause-untouched : goal.returns-in-Err-clause-untouched
+returns-in-Err-clause-untouched g c = only_reads_then c.reading.invariant.untouched c.frame_in.ensures.untouched

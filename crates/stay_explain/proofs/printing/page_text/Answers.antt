@@ -1,4 +1,4 @@
-use Rattle.std.proofs.Common.{◌≡◌, ◌∙◌, ap}
+use Rattle.std.proofs.Common.{◌∙◌, ap}
 use Rattle.std.specs.Io.KnownBytes.{append_known}
 use Rattle.csv.specs.Writing.{default_writer, row_text}
 use Rattle.stay_explain.specs.Table.{stays_header}

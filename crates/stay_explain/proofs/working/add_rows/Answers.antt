@@ -1,4 +1,4 @@
-use Rattle.std.proofs.Common.{◌≡◌, ◌++◌, ◌≤◌, length, rules}
+use Rattle.std.proofs.Common.{◌≡◌, ◌++◌, rules}
 use Rattle.stay_explain.specs.Pages.{rows_csv, tables_of}
 use Rattle.stay_explain.proofs.Bindings.{page_bound, all_bound, without_header}
 use Rattle.stay_explain.proofs.working.add_rows.Goals as goal
