@@ -11,8 +11,8 @@ pub next_in-requires-clause-part : goal.next_in-requires-clause-part
 next_in-requires-clause-part g c told =
     no_part c.in_ok-window.window.at c.in_ok-window.window.bytes (g.D.Disk.state c.open.new.self.disk).journal.seen c.in_ok-window.ensures
 
-pub next_in-2-requires-clause-part : goal.next_in-2-requires-clause-part
-next_in-2-requires-clause-part g c told =
+pub next_in-requires-2-clause-part : goal.next_in-requires-2-clause-part
+next_in-requires-2-clause-part g c told =
     subst (λ (s : State). IsPart c.next_in.new.window.at c.next_in.new.window.bytes s.journal.seen) (sym (c.next_in.ensures.untouched.files told).now) (c.next_in.ensures.part told)
 
 pub returns-in_default : goal.returns-in_default
