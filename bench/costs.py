@@ -433,14 +433,16 @@ TABLE = {row.name: row for row in (
     Row("opening", "a start without a checkpoint", "puts and acts", (20_000,), (5_000,), opening, None, "MiB", 0.0055, ENTRY),
     # PERFORMANCE: "`office explain` of that journal, processor time: 0.11 s".
     Row("explain-acts", "explain", "puts and acts", (20_000,), (5_000,), explain_acts, None, "MiB", 0.0055, ENTRY),
-    # SECURITY: "137 MB for 200,000 puts". Not kept: 140 MB.
-    Row("explain-puts", "explain", "puts", (200_000,), (20_000,), explain_puts, 709, PUT, each=ENTRY),
-    # SECURITY: "2.1 GB for a journal of 505 MB".
-    Row("explain-keys", "explain, keys of 1,024 bytes", "puts", (478_000,), (20_000,), explain_keys, 4.17, FILE, each=ENTRY),
+    # SECURITY: "611 bytes a put".
+    Row("explain-puts", "explain", "puts", (200_000,), (20_000,), explain_puts, 625, PUT, each=ENTRY),
+    # SECURITY: "2.1 times the journal".
+    Row("explain-keys", "explain, keys of 1,024 bytes", "puts", (478_000,), (20_000,), explain_keys, 2.2, FILE, each=ENTRY),
+    # SECURITY: "5.1 times the journal".
     Row("explain-quotes", "the same of quotes, in GLACIER", "puts", (100_000,), (5_000,),
-        partial(explain_keys, name="GLACIER", character=b'"'), None, FILE, each=ENTRY),
+        partial(explain_keys, name="GLACIER", character=b'"'), 5.25, FILE, each=ENTRY),
+    # SECURITY: "below 1 MiB".
     Row("explain-sparse", "explain of 1,000 puts before a hole in the file", "bytes", (2 << 30,), (64 << 20,),
-        explain_sparse, None, FILE, each=ENTRY),
+        explain_sparse, 0.02, FILE, each=ENTRY),
 )}
 
 
