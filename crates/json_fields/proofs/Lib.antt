@@ -1,3 +1,5 @@
 mod Examples
 pub mod FieldLemmas
 pub mod JsonLemmas
+pub mod NodeLemmas
+pub mod Turns

@@ -2,7 +2,11 @@
 #![tactic(auto)]
 
 mod fields;
+mod node;
+mod nodes;
+mod number;
 mod text;
+mod unread;
 
 pub use fields::first_unknown;
 pub use text::read_json;
