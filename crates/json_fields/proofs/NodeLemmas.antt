@@ -1,17 +1,68 @@
 -- Nodes, one more at a time.
-use Rattle.std.proofs.Common.{◌≡◌, ℕ, zero, suc, ◌+◌, ◌≤◌, List, [], ◌∷◌, ◌++◌, length, drop, Option, Some, None}
+use Rattle.std.proofs.Common.{◌≡◌, ℕ, zero, suc, ◌+◌, ◌-◌, ◌<◌, ◌≤◌, List, [], ◌∷◌, ◌++◌, length, take, drop, get_or, min, Option, Some, None}
 use Rattle.std.proofs.Common.{refl, sym, ap, ◌∙◌, arith}
 use Rattle.std.specs.List.{fold}
+use Rattle.std.proofs.lemmas.List.{length-drop, drop-drop, drop_min, take_more}
 use Rattle.std.proofs.lemmas.List.Sums.{fold-append}
 use Rattle.json.specs.Token.{Token}
 use Rattle.json.specs.Json.{parse_map}
 use Rattle.serde_json.specs.Data.{Data, string, Items, item, Members, no_members, put}
-use Rattle.json_fields.specs.Nodes.{items_from, members_from, onto, values_of, text_in}
+use Rattle.json_fields.specs.Nodes.{items_from, members_from, inside, onto, values_of, text_in}
 use Rattle.json_fields.specs.declared.node.Node.{Node}
+use Rattle.json_fields.specs.declared.node.Node.TheVariants.{Null, Truth, Number, Text, Array, Object}
 
 pub values_of_push : (nodes : List Node) (node : Node) → values_of (nodes ++ node ∷ []) ≡ onto (values_of nodes) node
 unfolding values_of
 values_of_push nodes node = fold-append onto [] nodes (node ∷ [])
+
+pub values_of_none : (nodes : List Node) → length nodes ≡ 0 → values_of nodes ≡ []
+unfolding values_of
+values_of_none [] is = refl
+values_of_none (node ∷ nodes) is = absurd (omega arith)
+
+-- no more values than nodes
+onto-len : (stack : List Data) (node : Node) → length (onto stack node) ≤ length stack + 1
+onto-len stack Null = omega arith
+onto-len stack (Truth b) = omega arith
+onto-len stack (Number n) = omega arith
+onto-len stack (Text s) = omega arith
+onto-len stack (Array n) = omega (arith, length-drop n stack)
+onto-len stack (Object n) = omega (arith, length-drop n stack)
+
+folded-len : (nodes : List Node) (stack : List Data) → length (fold onto stack nodes) ≤ length stack + length nodes
+folded-len [] stack = omega arith
+folded-len (node ∷ nodes) stack = omega (arith, onto-len stack node, folded-len nodes (onto stack node))
+
+pub values_of-len : (nodes : List Node) → length (values_of nodes) ≤ length nodes
+unfolding values_of
+values_of-len nodes = omega (arith, folded-len nodes [])
+
+-- the values below a node's value
+pub drop-onto : (n : ℕ) (stack : List Data) (node : Node) → 0 < n → drop n (onto stack node) ≡ drop (n - 1 + inside node) stack
+drop-onto zero stack node some = absurd (omega arith)
+drop-onto (suc n) stack Null some = let e : n ≡ suc n - 1 + 0 = omega arith in ap (λ k. drop k stack) e
+drop-onto (suc n) stack (Truth b) some = let e : n ≡ suc n - 1 + 0 = omega arith in ap (λ k. drop k stack) e
+drop-onto (suc n) stack (Number x) some = let e : n ≡ suc n - 1 + 0 = omega arith in ap (λ k. drop k stack) e
+drop-onto (suc n) stack (Text s) some = let e : n ≡ suc n - 1 + 0 = omega arith in ap (λ k. drop k stack) e
+drop-onto (suc n) stack (Array m) some =
+    let e : m + n ≡ suc n - 1 + m = omega arith in drop-drop n m stack ∙ ap (λ k. drop k stack) e
+drop-onto (suc n) stack (Object m) some =
+    let e : m + n ≡ suc n - 1 + m = omega arith in drop-drop n m stack ∙ ap (λ k. drop k stack) e
+
+-- a node further on
+pub values_of-take : (nodes : List Node) (i : ℕ) (node : Node) → i < length nodes
+    → values_of (take (i + 1) nodes) ≡ onto (values_of (take i nodes)) (get_or nodes i node)
+values_of-take nodes i node within =
+    ap values_of (take_more nodes i node within) ∙ values_of_push (take i nodes) (get_or nodes i node)
+
+-- a count that is capped passes the same values
+pub drop-capped : (n m : ℕ) (nodes : List Node) → length nodes ≤ m
+    → drop (min n m) (values_of nodes) ≡ drop n (values_of nodes)
+drop-capped n m nodes enough =
+    let stack = values_of nodes in
+    let fewer : length stack ≤ m = omega (arith, values_of-len nodes) in
+    let same : min (min n m) (length stack) ≡ min n (length stack) = omega arith in
+    sym (drop_min (min n m) stack) ∙ ap (λ k. drop k stack) same ∙ drop_min n stack
 
 -- one more item
 pub items_from-more : (n : ℕ) (d : Data) (stack : List Data) (more : Items)

@@ -30,6 +30,15 @@ members_from (suc (suc n)) [] = no_members
 members_from (suc (suc n)) (name ∷ []) = no_members
 members_from (suc (suc n)) (name ∷ value ∷ stack) = put (text_in name) value (members_from n stack)
 
+-- how many of the values before a node are inside it
+abbrev pub inside : Node → ℕ
+inside Null = 0
+inside (Truth b) = 0
+inside (Number n) = 0
+inside (Text s) = 0
+inside (Array n) = n
+inside (Object n) = n
+
 -- the stack of values after one more node
 abbrev pub onto : List Data → Node → List Data
 onto stack Null = null ∷ stack

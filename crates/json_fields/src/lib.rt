@@ -1,6 +1,7 @@
 //! The value of a JSON text, and the unexpected fields of an object.
 #![tactic(auto)]
 
+mod element;
 mod fields;
 mod node;
 mod nodes;

@@ -1,0 +1,108 @@
+// The values of a document.
+ghost use Rattle.std.specs.Prelude.{◌≡◌, ◌<◌, [], ◌∷◌, option_map, MatchOption, OnSome};
+ghost use Rattle.serde_json.specs.Data.{no_items, no_members, put, item};
+ghost use Rattle.serde_json.specs.Data.{Items as DataItems};
+ghost use Rattle.serde_json.specs.Find.{as_str, as_bool, as_array, as_object};
+ghost use Rattle.json_fields.specs.Fields.{whole_number};
+ghost use Rattle.json_fields.specs.Nodes.{text_in, value_of};
+ghost use Rattle.json_fields.specs.Elements.{data_of, elements_left, fields_left};
+
+use crate::node::{Node, below, split};
+
+/// A value in a document. A copy takes no memory.
+#[derive(Clone, Copy, Drop)]
+pub struct Element<'t, 'a> {
+    nodes: &'t [Node<'a>],
+}
+
+/// The elements of an array that are still to come, from the last to the first.
+#[derive(Clone, Copy, Drop)]
+pub struct Elements<'t, 'a> {
+    left: usize,
+    nodes: &'t [Node<'a>],
+}
+
+/// The fields of an object that are still to come, from the last to the first in the text. A name may come again.
+#[derive(Clone, Copy, Drop)]
+pub struct ObjectFields<'t, 'a> {
+    left: usize,
+    nodes: &'t [Node<'a>],
+}
+
+// The text of the last value, and the empty text if it is no string.
+fn text_in<'a>(nodes: &[Node<'a>]) -> &'a str
+    ensures { result.now ≡ text_in (value_of nodes.now) }
+{
+    match split(nodes) {
+        Some((node, _)) => match node {
+            Node::Text(text) => text,
+            Node::Null | Node::Truth(_) | Node::Number(_) | Node::Array(_) | Node::Object(_) => "",
+        },
+        None => "",
+    }
+}
+
+impl<'t, 'a> Element<'t, 'a> {
+    pub(crate) fn last(nodes: &'t [Node<'a>]) -> Element<'t, 'a>
+        ensures { data_of result ≡ value_of nodes.now }
+    {
+        Element { nodes }
+    }
+
+    /// The text of a string; None if this is no string.
+    pub fn as_str(&self) -> Option<&'a str>
+        ensures { option_map (λ t. t.now) result ≡ as_str (data_of self.now) }
+    {
+        let (node, _) = split(self.nodes)?;
+        match node {
+            Node::Text(text) => Some(text),
+            Node::Null | Node::Truth(_) | Node::Number(_) | Node::Array(_) | Node::Object(_) => {
+                None
+            }
+        }
+    }
+
+    /// The truth value; None if this is none.
+    pub fn as_bool(&self) -> Option<bool>
+        ensures { result ≡ as_bool (data_of self.now) }
+    {
+        let (node, _) = split(self.nodes)?;
+        match node {
+            Node::Truth(truth) => Some(truth),
+            Node::Null | Node::Number(_) | Node::Text(_) | Node::Array(_) | Node::Object(_) => None,
+        }
+    }
+
+    /// A whole number from 0 to 2^64 - 1, written as an integer; None if this is none.
+    pub fn as_u64(&self) -> Option<u64>
+        ensures { result ≡ whole_number (data_of self.now) }
+    {
+        let (node, _) = split(self.nodes)?;
+        match node {
+            Node::Number(number) => number.as_u64(),
+            Node::Null | Node::Truth(_) | Node::Text(_) | Node::Array(_) | Node::Object(_) => None,
+        }
+    }
+
+    /// The elements of an array; None if this is no array.
+    pub fn elements(&self) -> Option<Elements<'t, 'a>>
+        ensures { option_map (λ es. elements_left es no_items) result ≡ as_array (data_of self.now) }
+    {
+        let (node, nodes) = split(self.nodes)?;
+        match node {
+            Node::Array(left) => Some(Elements { left, nodes }),
+            Node::Null | Node::Truth(_) | Node::Number(_) | Node::Text(_) | Node::Object(_) => None,
+        }
+    }
+
+    /// The fields of an object; None if this is no object.
+    pub fn fields(&self) -> Option<ObjectFields<'t, 'a>>
+        ensures { option_map fields_left result ≡ as_object (data_of self.now) }
+    {
+        let (node, nodes) = split(self.nodes)?;
+        match node {
+            Node::Object(left) => Some(ObjectFields { left, nodes }),
+            Node::Null | Node::Truth(_) | Node::Number(_) | Node::Text(_) | Node::Array(_) => None,
+        }
+    }
+}
