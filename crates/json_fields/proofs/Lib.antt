@@ -3,3 +3,4 @@ pub mod FieldLemmas
 pub mod JsonLemmas
 pub mod NodeLemmas
 pub mod Turns
+pub mod WalkLemmas

@@ -106,3 +106,40 @@ impl<'t, 'a> Element<'t, 'a> {
         }
     }
 }
+
+impl<'t, 'a> Elements<'t, 'a> {
+    /// Takes the last element that is left. None if there is none.
+    #[tactic(auto, using(crate::proofs::WalkLemmas::items_from_step, crate::proofs::WalkLemmas::items_from_end, crate::proofs::WalkLemmas::items_from_over))]
+    pub fn next(&mut self) -> Option<Element<'t, 'a>>
+        ensures value { (more : DataItems) → MatchOption result (elements_left self.old more ≡ more)
+            (λ e. elements_left self.old more ≡ elements_left self.new (item (data_of e) more)) }
+        ensures fewer { OnSome result (self.new.left < self.old.left) }
+    {
+        if self.left == 0 || self.nodes.is_empty() {
+            return None;
+        }
+        let last = Element { nodes: self.nodes };
+        self.nodes = below(self.nodes, 1);
+        self.left -= 1;
+        Some(last)
+    }
+}
+
+impl<'t, 'a> ObjectFields<'t, 'a> {
+    /// Takes the last field that is left: its name and its value. None if there is none.
+    #[tactic(auto, using(crate::proofs::WalkLemmas::members_from_step, crate::proofs::WalkLemmas::members_from_end, crate::proofs::WalkLemmas::members_from_over))]
+    pub fn next(&mut self) -> Option<(&'a str, Element<'t, 'a>)>
+        ensures value { MatchOption result (fields_left self.old ≡ no_members)
+            (λ f. fields_left self.old ≡ put f.0.now (data_of f.1) (fields_left self.new)) }
+        ensures fewer { OnSome result (self.new.left < self.old.left) }
+    {
+        let value = below(self.nodes, 1);
+        if self.left < 2 || value.is_empty() {
+            return None;
+        }
+        let name = text_in(self.nodes);
+        self.nodes = below(value, 1);
+        self.left -= 2;
+        Some((name, Element { nodes: value }))
+    }
+}
