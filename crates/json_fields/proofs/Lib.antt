@@ -1,6 +1,7 @@
 mod Examples
 pub mod FieldLemmas
 pub mod JsonLemmas
+pub mod NameLemmas
 pub mod NodeLemmas
 pub mod Turns
 pub mod WalkLemmas

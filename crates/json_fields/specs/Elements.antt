@@ -2,6 +2,7 @@
 use Rattle.std.specs.Prelude.{ℕ}
 use Rattle.serde_json.specs.Data.{Data, Items, Members}
 use Rattle.json_fields.specs.Nodes.{items_from, members_from, values_of, value_of}
+use Rattle.json_fields.specs.declared.document.Document.{Document}
 use Rattle.json_fields.specs.declared.element.Element.{Element}
 use Rattle.json_fields.specs.declared.element.Elements.{Elements}
 use Rattle.json_fields.specs.declared.element.ObjectFields.{ObjectFields}
@@ -17,3 +18,7 @@ elements_left elements more = items_from elements.left (values_of elements.nodes
 -- the fields that are left, as the members of an object
 abbrev pub fields_left : ObjectFields → Members
 fields_left fields = members_from fields.left (values_of fields.nodes.now)
+
+-- the value of a document
+abbrev pub document_data : Document → Data
+document_data document = value_of document.nodes.items

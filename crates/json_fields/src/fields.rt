@@ -15,7 +15,7 @@ fn any_is(known: &[&str], name: &str) -> bool
     known.iter().any(|k| name == *k)
 }
 
-fn is_known(known: &[&str], name: &str) -> bool
+pub(crate) fn is_known(known: &[&str], name: &str) -> bool
     ensures { result ≡ is_among (map (λ k. k.now) known.now) name.now }
 {
     any_is(known, name)
