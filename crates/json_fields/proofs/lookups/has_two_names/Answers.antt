@@ -14,7 +14,8 @@ returns-then-ne c =
     let value = data_of c.in-Some-next.field-0-1 in
     let counted = ap names_of c.in-Some.ensures.value ∙ names-put first (data_of c.in-Some.field-0-1) null (fields_left c.next.new.self)
         ∙ sym c.others.invariant in
-    let other : first ≡ name → ⊥ = λ same. c.if-ne.true (sym same) in
+    let apart : name ≡ first → ⊥ = search (rules, bytes_eq-Decides) in
+    let other : first ≡ name → ⊥ = λ (same : first ≡ name). apart (sym same) in
     let same_len = ap length (counted ∙ ap (λ ms. names_of (put first null ms)) c.in-Some-next.ensures.value) in
     let long : 1 < length (names_of (fields_left c.args.fields)) =
         omega (arith, same_len, two_names first name null value rest other) in
@@ -26,7 +27,8 @@ others-preserved c =
     let name = c.in-Some-next.name.now in
     let rest = fields_left c.next-in-others.new.self in
     let value = data_of c.in-Some-next.field-0-1 in
-    let same : first ≡ name = sym c.if-ne.false in
+    let alike : name ≡ first = search (rules, bytes_eq-Decides) in
+    let same : first ≡ name = sym alike in
     sym (names-put_again first null value rest)
     ∙ ap (λ k. names_of (put first null (put k value rest))) same
     ∙ ap (λ ms. names_of (put first null ms)) (sym c.in-Some-next.ensures.value) ∙ c.others.invariant
