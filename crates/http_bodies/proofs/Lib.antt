@@ -1,2 +1,4 @@
 pub mod BodyLemmas
 mod Examples
+pub mod PairLemmas
+pub mod PutLemmas

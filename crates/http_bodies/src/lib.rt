@@ -4,6 +4,7 @@
 mod body;
 mod fault;
 mod multipart;
+mod pairs;
 mod put;
 mod ranges;
 mod settings;

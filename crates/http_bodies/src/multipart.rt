@@ -2,10 +2,11 @@
 ghost use Rattle.http_bodies.specs.Flaws.{BodySays};
 ghost use Rattle.http_bodies.specs.Multipart.{upload_said, part_of};
 
-use crate::body::{read_object, take_pairs, text, whole_number};
+use crate::body::{pairs, read_object, text, whole_number};
 use crate::fault::BodyFault;
 use crate::ranges::{class_in_range, tags_in_range};
 use class_rules::Class;
+use json::Scratch;
 use office_base::Tags;
 use std::alloc::Global;
 
@@ -34,12 +35,13 @@ pub struct UploadBody {
 pub fn read_upload(alloc: Global, bytes: &[u8]) -> Result<UploadBody, BodyFault>
     ensures exact { BodySays (λ body. body) result (upload_said bytes.now) }
 {
-    let mut body = read_object(alloc, bytes, &["class", "tags"])?;
-    let class = class_in_range(alloc, text(alloc, &body, "class")?);
-    let pairs = take_pairs(alloc, &mut body, "tags")?;
-    // The name is looked up before the pairs are taken out of the body, but its fault is reported after theirs.
+    let mut scratch = Scratch::new(alloc);
+    let document = read_object(alloc, bytes, &mut scratch, &["class", "tags"])?;
+    let body = document.root();
+    let class = text(alloc, &body, "class")?;
+    let pairs = pairs(alloc, &body, "tags")?;
     Ok(UploadBody {
-        class: class?,
+        class: class_in_range(alloc, class)?,
         tags: tags_in_range(alloc, pairs)?,
     })
 }
@@ -58,6 +60,7 @@ pub fn read_upload(alloc: Global, bytes: &[u8]) -> Result<UploadBody, BodyFault>
 pub fn read_part(alloc: Global, bytes: &[u8]) -> Result<u64, BodyFault>
     ensures exact { BodySays (λ size. size) result (part_of bytes.now) }
 {
-    let body = read_object(alloc, bytes, &["size"])?;
-    whole_number(alloc, &body, "size")
+    let mut scratch = Scratch::new(alloc);
+    let document = read_object(alloc, bytes, &mut scratch, &["size"])?;
+    whole_number(alloc, &document.root(), "size")
 }

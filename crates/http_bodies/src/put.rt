@@ -2,10 +2,11 @@
 ghost use Rattle.http_bodies.specs.Flaws.{BodySays};
 ghost use Rattle.http_bodies.specs.Puts.{put_of};
 
-use crate::body::{read_object, take_pairs, text, whole_number};
+use crate::body::{pairs, read_object, text, whole_number};
 use crate::fault::BodyFault;
 use crate::ranges::{class_in_range, size_in_range, tags_in_range};
 use class_rules::Class;
+use json::Scratch;
 use office_base::{Size, Tags};
 use std::alloc::Global;
 
@@ -40,14 +41,15 @@ pub struct PutBody {
 pub fn read_put(alloc: Global, bytes: &[u8]) -> Result<PutBody, BodyFault>
     ensures exact { BodySays (λ body. body) result (put_of bytes.now) }
 {
-    let mut body = read_object(alloc, bytes, &["size", "class", "tags"])?;
+    let mut scratch = Scratch::new(alloc);
+    let document = read_object(alloc, bytes, &mut scratch, &["size", "class", "tags"])?;
+    let body = document.root();
     let size = whole_number(alloc, &body, "size")?;
-    let class = class_in_range(alloc, text(alloc, &body, "class")?);
-    let pairs = take_pairs(alloc, &mut body, "tags")?;
-    // The name is looked up before the pairs are taken out of the body, but its fault is reported after theirs.
+    let class = text(alloc, &body, "class")?;
+    let pairs = pairs(alloc, &body, "tags")?;
     Ok(PutBody {
         size: size_in_range(size)?,
-        class: class?,
+        class: class_in_range(alloc, class)?,
         tags: tags_in_range(alloc, pairs)?,
     })
 }

@@ -2,9 +2,10 @@
 ghost use Rattle.http_bodies.specs.Flaws.{BodySays};
 ghost use Rattle.http_bodies.specs.Settings.{versioning_of, tagging_of};
 
-use crate::body::{read_object, status, take_needed_pairs};
+use crate::body::{needed_pairs, read_object, status};
 use crate::fault::BodyFault;
 use crate::ranges::tags_in_range;
+use json::Scratch;
 use office_base::Tags;
 use std::alloc::Global;
 
@@ -23,8 +24,9 @@ use std::alloc::Global;
 pub fn read_status(alloc: Global, bytes: &[u8]) -> Result<bool, BodyFault>
     ensures exact { BodySays (λ enabled. enabled) result (versioning_of bytes.now) }
 {
-    let body = read_object(alloc, bytes, &["Status"])?;
-    status(alloc, &body, "Status")
+    let mut scratch = Scratch::new(alloc);
+    let document = read_object(alloc, bytes, &mut scratch, &["Status"])?;
+    status(alloc, &document.root(), "Status")
 }
 
 /// Reads the tags that a version is to have: a JSON object with `tags`, an object of texts. An empty body counts as
@@ -42,7 +44,8 @@ pub fn read_status(alloc: Global, bytes: &[u8]) -> Result<bool, BodyFault>
 pub fn read_tags(alloc: Global, bytes: &[u8]) -> Result<Tags, BodyFault>
     ensures exact { BodySays (λ tags. tags) result (tagging_of bytes.now) }
 {
-    let mut body = read_object(alloc, bytes, &["tags"])?;
-    let pairs = take_needed_pairs(alloc, &mut body, "tags")?;
+    let mut scratch = Scratch::new(alloc);
+    let document = read_object(alloc, bytes, &mut scratch, &["tags"])?;
+    let pairs = needed_pairs(alloc, &document.root(), "tags")?;
     tags_in_range(alloc, Some(pairs))
 }
