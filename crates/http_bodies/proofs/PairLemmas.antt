@@ -1,6 +1,8 @@
 -- Texts by their names, one more at a time.
-use Rattle.std.proofs.Common.{◌≡◌, ℕ, List, [], ◌∷◌, Bool, true, false, Option, Some, None, option_map, option_and_then, map, cond}
-use Rattle.std.proofs.Common.{is_some, Ordering, Less, Equal, Greater, is_eq, refl, sym, ap, ◌∙◌}
+use Rattle.std.proofs.Common.{◌≡◌, ℕ, List, [], ◌∷◌, Bool, true, false, Option, Some, None, Err, option_and_then, map, cond}
+use Rattle.std.proofs.Common.{◌<◌, length, is_some, Ordering, Less, Equal, Greater, is_eq, refl, sym, ap, ◌∙◌}
+use Rattle.std.proofs.lemmas.Bool.{lt-leb}
+use Rattle.std.proofs.lemmas.List.{length-map}
 use Rattle.std.specs.Borrow.{Bor}
 use Rattle.std.specs.BTreeMap.{insert_entry, is_at}
 use Rattle.std.specs.List.Sorted.{IsStrictlySortedBy}
@@ -8,13 +10,20 @@ use Rattle.std.specs.Map.{keys_of, lookup}
 use Rattle.std.specs.Ordering.{match_ordering}
 use Rattle.serde_json.specs.Data.{Data, null, boolean, number, string, array, object, Members, no_members, member, put}
 use Rattle.serde_json.specs.Find.{as_str, as_object}
-use Rattle.office_base.specs.Tags.{Tag}
+use Rattle.office_base.specs.Tags.{Tag, are_tags}
 use Rattle.http_bodies.specs.Bodies.{text_members, text_pairs}
-use Rattle.http_bodies.specs.Pairs.{Named, pair_of, over}
+use Rattle.http_bodies.specs.Flaws.{bad_tags}
+use Rattle.http_bodies.specs.Ranges.{tags_in_range}
+use Rattle.http_bodies.specs.Pairs.{Named, pair_of, pairs_of}
 use Rattle.http_bodies.proofs.PutLemmas.{order, same_name, tied, put_twice, put_twice_at, put_other}
 
+-- members, with these texts in place of what they have at the same names
+abbrev pub over : List Named → Members → Members
+over [] ms = ms
+over (e ∷ es) ms = put e.0.now (string e.1.now) (over es ms)
+
 -- the order of names behind references
-abbrev names_cmp : Bor (List ℕ) → Bor (List ℕ) → Ordering
+abbrev pub names_cmp : Bor (List ℕ) → Bor (List ℕ) → Ordering
 names_cmp a b = order a.now b.now
 
 -- whether a name is among them
@@ -35,6 +44,7 @@ put_over k x d (e ∷ es) ms = go (order k e.0.now) refl (put_over k x d es ms)
         put_other k e.0.now x (string e.1.now) (over es (put k d ms)) other
         ∙ ap (put e.0.now (string e.1.now)) more
         ∙ sym (put_other k e.0.now x (string e.1.now) (over es ms) other)
+
     go : (o : Ordering) → order k e.0.now ≡ o → put k x (over es (put k d ms)) ≡ put k x (over es ms)
         → put k x (over (e ∷ es) (put k d ms)) ≡ put k x (over (e ∷ es) ms)
     go Less is more = pass (apart k e.0.now Less is (λ (h : Less ≡ Equal). absurd cc)) more
@@ -69,6 +79,7 @@ over_new k d (e ∷ es) ms none = go (order k e.0.now) refl none (over_new k d e
     pass : (k ≡ e.0.now → ⊥) → over es (put k d ms) ≡ put k d (over es ms) → over (e ∷ es) (put k d ms) ≡ put k d (over (e ∷ es) ms)
     pass other more =
         ap (put e.0.now (string e.1.now)) more ∙ sym (put_other k e.0.now d (string e.1.now) (over es ms) other)
+
     go : (o : Ordering) → order k e.0.now ≡ o → false ≡ is_some (cond (is_eq o) (Some e.1) (lookup (is_at (λ (q : Bor (List ℕ)). order k q.now)) es))
         → (false ≡ has_name k es → over es (put k d ms) ≡ put k d (over es ms))
         → over (e ∷ es) (put k d ms) ≡ put k d (over (e ∷ es) ms)
@@ -85,7 +96,7 @@ over-insert name text (e ∷ es) ms none = go (order name.now e.0.now) refl none
         → false ≡ is_some (cond (is_eq o) (Some e.1) (lookup (is_at (λ (q : Bor (List ℕ)). order name.now q.now)) es))
         → (false ≡ has_name name.now es → over (insert_entry names_cmp es name text) ms ≡ over es (put name.now (string text.now) ms))
         → over (match_ordering o ((name, text) ∷ e ∷ es) ((e.0, text) ∷ es) (e ∷ insert_entry names_cmp es name text)) ms
-          ≡ over (e ∷ es) (put name.now (string text.now) ms)
+        ≡ over (e ∷ es) (put name.now (string text.now) ms)
     go Less is absent more = sym (over_new name.now (string text.now) (e ∷ es) ms none)
     go Equal is absent more = absurd cc
     go Greater is absent more = ap (put e.0.now (string e.1.now)) (more absent)
@@ -147,18 +158,23 @@ texts_of (e ∷ es) = rw (texts_of es) refl
 
 -- sorted texts are the pairs
 pub text_members-over : (es : List Named) → IsStrictlySortedBy names_cmp (keys_of es)
-    → text_members (over es no_members) ≡ Some (map pair_of es)
+    → text_members (over es no_members) ≡ Some (pairs_of es)
 text_members-over es sorted = ap text_members (over-sorted es sorted) ∙ texts_of es
 
 -- ---- the pairs of a value
 
-pub owned_pairs : (d : Data) (ms gathered : Members) (pairs : List Tag) → Some ms ≡ as_object d → ms ≡ gathered
-    → text_members gathered ≡ Some pairs → Some pairs ≡ text_pairs d
-owned_pairs d ms gathered pairs is same found =
-    sym found ∙ sym (ap text_members same) ∙ ap (option_and_then text_members) is
-
-pub bad_pairs : (d : Data) (ms : Members) → Some ms ≡ as_object d → text_members ms ≡ None → None ≡ text_pairs d
-bad_pairs d ms is bad = sym bad ∙ ap (option_and_then text_members) is
+pub object_pairs : (d : Data) (ms : Members) (found : Option (List Tag)) → Some ms ≡ as_object d → found ≡ text_members ms
+    → found ≡ text_pairs d
+object_pairs d ms found is same = same ∙ ap (option_and_then text_members) is
 
 pub no_pairs : (d : Data) → None ≡ as_object d → None ≡ text_pairs d
 no_pairs d is = ap (option_and_then text_members) is
+
+-- ---- more pairs than tags
+
+too_many : (es : List Named) → 10 < length es → are_tags (pairs_of es) ≡ false
+unfolding are_tags
+too_many es more = rw (length-map es pair_of, lt-leb (length es) 10 more) refl
+
+pub too_many_tags : (es : List Named) → 10 < length es → tags_in_range (Some (pairs_of es)) ≡ Err bad_tags
+too_many_tags es more = rw (too_many es more) refl

@@ -1,5 +1,5 @@
 -- Members that are put into an object in another order.
-use Rattle.std.proofs.Common.{◌≡◌, ℕ, List, [], Ordering, Less, Equal, Greater, nat_cmp, is_eq, refl, sym, ap, ◌∙◌}
+use Rattle.std.proofs.Common.{◌≡◌, ℕ, List, Ordering, Less, Equal, Greater, nat_cmp, is_eq, refl, sym, ap, ◌∙◌}
 use Rattle.std.proofs.lemmas.Cmp.{nat_list_cmp_total, tied_itself}
 use Rattle.std.proofs.lemmas.Map.Text.{is_eq-slice_cmp}
 use Rattle.std.proofs.lemmas.Slice.Eq.{bytes_eq-Decides}
@@ -26,7 +26,7 @@ put_twice k d e (member l f ms) = go (order k l) refl (put_twice k d e ms)
   where
     go : (o : Ordering) → order k l ≡ o → put k d (put k e ms) ≡ put k d ms
         → put k d (match_ordering o (member k e (member l f ms)) (member l e ms) (member l f (put k e ms)))
-          ≡ match_ordering o (member k d (member l f ms)) (member l d ms) (member l f (put k d ms))
+        ≡ match_ordering o (member k d (member l f ms)) (member l d ms) (member l f (put k d ms))
     go Less is more = rw (tied_itself nat_list_cmp_total k) refl
     go Equal is more = rw is refl
     go Greater is more = rw is (ap (member l f) more)
@@ -47,7 +47,7 @@ put_other k l d e (member m f ms) other = go (order k m) refl (order l m) refl (
     go : (o : Ordering) → order k m ≡ o → (p : Ordering) → order l m ≡ p → (q : Ordering) → order k l ≡ q
         → put k d (put l e ms) ≡ put l e (put k d ms)
         → put k d (match_ordering p (member l e (member m f ms)) (member m e ms) (member m f (put l e ms)))
-          ≡ put l e (match_ordering o (member k d (member m f ms)) (member m d ms) (member m f (put k d ms)))
+        ≡ put l e (match_ordering o (member k d (member m f ms)) (member m d ms) (member m f (put k d ms)))
     go Less km Less lm Less kl more = let lk : order l k ≡ Greater = back k l Less kl in rw (kl, lk, lm) refl
     go Less km Less lm Equal kl more = absurd (other (same_name k l kl))
     go Less km Less lm Greater kl more = let lk : order l k ≡ Less = back k l Greater kl in rw (kl, lk, km) refl

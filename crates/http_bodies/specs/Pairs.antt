@@ -1,7 +1,6 @@
--- Texts by their names, as members of an object.
-use Rattle.std.specs.Prelude.{ℕ, List, [], ◌∷◌}
+-- Texts by their names.
+use Rattle.std.specs.Prelude.{ℕ, List, map}
 use Rattle.std.specs.Borrow.{Bor}
-use Rattle.serde_json.specs.Data.{string, Members, put}
 use Rattle.office_base.specs.Tags.{Tag}
 
 -- a name and its text
@@ -11,7 +10,6 @@ Named = Bor (List ℕ) × Bor (List ℕ)
 abbrev pub pair_of : Named → Tag
 pair_of e = (e.0.now, e.1.now)
 
--- members, with these texts in place of what they have at the same names
-abbrev pub over : List Named → Members → Members
-over [] ms = ms
-over (e ∷ es) ms = put e.0.now (string e.1.now) (over es ms)
+-- names with their texts, as pairs
+abbrev pub pairs_of : List Named → List Tag
+pairs_of es = map pair_of es

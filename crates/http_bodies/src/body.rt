@@ -1,16 +1,16 @@
 // The object that a body is, and its fields.
 ghost use Rattle.std.specs.Prelude.{◌≡◌, [], option_map, option_and_then, ok_or, map};
 ghost use Rattle.serde_json.specs.Find.{as_str};
-ghost use Rattle.office_base.specs.Tags.{tags_of};
 ghost use Rattle.json_fields.specs.Fields.{json_of, whole_number};
 ghost use Rattle.json_fields.specs.Elements.{data_of, document_data};
 ghost use Rattle.http_bodies.specs.Bodies.{if_object, body_object};
 ghost use Rattle.http_bodies.specs.Bodies.{text_pairs, held, if_held};
+ghost use Rattle.http_bodies.specs.Pairs.{pairs_of};
 ghost use Rattle.http_bodies.specs.Flaws.{BodySays, bad_body, with_fields, body_with};
 ghost use Rattle.http_bodies.specs.Settings.{status_named, versioning_status};
 
 use crate::fault::{BodyFault, bad_field};
-use crate::pairs::text_pairs;
+use crate::pairs::{Texts, text_pairs};
 use json::Scratch;
 use json_fields::{Document, Element, read_document};
 use std::alloc::Global;
@@ -106,11 +106,7 @@ fn status_in(value: &Element<'_, '_>) -> Option<bool>
 }
 
 // Whether versioning is enabled, by a required field.
-pub(crate) fn status(
-    alloc: Global,
-    body: &Element<'_, '_>,
-    name: &str,
-) -> Result<bool, BodyFault>
+pub(crate) fn status(alloc: Global, body: &Element<'_, '_>, name: &str) -> Result<bool, BodyFault>
     ensures { BodySays (λ enabled. enabled) result
         (ok_or (held versioning_status name.now (data_of body.now)) (bad_body name.now)) }
 {
@@ -141,47 +137,43 @@ pub(crate) fn text<'a>(
     }
 }
 
-// The pairs of texts that the field of this name holds.
-fn pairs_of(
-    alloc: Global,
-    value: &Element<'_, '_>,
-    name: &str,
-) -> Result<Vec<(String, String)>, BodyFault>
-    ensures { BodySays (λ pairs. tags_of pairs.items) result
+// The texts that the field of this name holds, by their names.
+fn texts_of<'a>(alloc: Global, value: &Element<'_, 'a>, name: &str) -> Result<Texts<'a>, BodyFault>
+    ensures { BodySays (λ texts. pairs_of texts.entries) result
         (ok_or (text_pairs (data_of value.now)) (bad_body name.now)) }
 {
     match text_pairs(alloc, value)? {
-        Some(pairs) => Ok(pairs),
+        Some(texts) => Ok(texts),
         None => Err(bad_field(alloc, name)),
     }
 }
 
-// The pairs of texts of a required field.
-pub(crate) fn needed_pairs(
+// The texts of a required field, by their names.
+pub(crate) fn needed_texts<'a>(
     alloc: Global,
-    body: &Element<'_, '_>,
+    body: &Element<'_, 'a>,
     name: &str,
-) -> Result<Vec<(String, String)>, BodyFault>
-    ensures { BodySays (λ pairs. tags_of pairs.items) result
+) -> Result<Texts<'a>, BodyFault>
+    ensures { BodySays (λ texts. pairs_of texts.entries) result
         (ok_or (held text_pairs name.now (data_of body.now)) (bad_body name.now)) }
 {
     match body.get(name) {
-        Some(value) => pairs_of(alloc, &value, name),
+        Some(value) => texts_of(alloc, &value, name),
         None => Err(bad_field(alloc, name)),
     }
 }
 
-// The pairs of texts of an optional field.
-pub(crate) fn pairs(
+// The texts of an optional field, by their names.
+pub(crate) fn texts<'a>(
     alloc: Global,
-    body: &Element<'_, '_>,
+    body: &Element<'_, 'a>,
     name: &str,
-) -> Result<Option<Vec<(String, String)>>, BodyFault>
-    ensures { BodySays (λ found. option_map (λ pairs. tags_of pairs.items) found) result
+) -> Result<Option<Texts<'a>>, BodyFault>
+    ensures { BodySays (λ found. option_map (λ texts. pairs_of texts.entries) found) result
         (ok_or (if_held text_pairs name.now (data_of body.now)) (bad_body name.now)) }
 {
     match body.get(name) {
-        Some(value) => Ok(Some(pairs_of(alloc, &value, name)?)),
+        Some(value) => Ok(Some(texts_of(alloc, &value, name)?)),
         None => Ok(None),
     }
 }

@@ -2,7 +2,7 @@
 ghost use Rattle.http_bodies.specs.Flaws.{BodySays};
 ghost use Rattle.http_bodies.specs.Multipart.{upload_said, part_of};
 
-use crate::body::{pairs, read_object, text, whole_number};
+use crate::body::{read_object, text, texts, whole_number};
 use crate::fault::BodyFault;
 use crate::ranges::{class_in_range, tags_in_range};
 use class_rules::Class;
@@ -39,10 +39,10 @@ pub fn read_upload(alloc: Global, bytes: &[u8]) -> Result<UploadBody, BodyFault>
     let document = read_object(alloc, bytes, &mut scratch, &["class", "tags"])?;
     let body = document.root();
     let class = text(alloc, &body, "class")?;
-    let pairs = pairs(alloc, &body, "tags")?;
+    let texts = texts(alloc, &body, "tags")?;
     Ok(UploadBody {
         class: class_in_range(alloc, class)?,
-        tags: tags_in_range(alloc, pairs)?,
+        tags: tags_in_range(alloc, texts)?,
     })
 }
 

@@ -2,7 +2,7 @@
 ghost use Rattle.http_bodies.specs.Flaws.{BodySays};
 ghost use Rattle.http_bodies.specs.Puts.{put_of};
 
-use crate::body::{pairs, read_object, text, whole_number};
+use crate::body::{read_object, text, texts, whole_number};
 use crate::fault::BodyFault;
 use crate::ranges::{class_in_range, size_in_range, tags_in_range};
 use class_rules::Class;
@@ -46,10 +46,10 @@ pub fn read_put(alloc: Global, bytes: &[u8]) -> Result<PutBody, BodyFault>
     let body = document.root();
     let size = whole_number(alloc, &body, "size")?;
     let class = text(alloc, &body, "class")?;
-    let pairs = pairs(alloc, &body, "tags")?;
+    let texts = texts(alloc, &body, "tags")?;
     Ok(PutBody {
         size: size_in_range(size)?,
         class: class_in_range(alloc, class)?,
-        tags: tags_in_range(alloc, pairs)?,
+        tags: tags_in_range(alloc, texts)?,
     })
 }

@@ -1,10 +1,11 @@
 // The values of fields, in range.
 ghost use Rattle.std.specs.Prelude.{◌≡◌, option_map, IfSome};
-ghost use Rattle.office_base.specs.Tags.{tags_of};
 ghost use Rattle.http_bodies.specs.Flaws.{BodySays, body_flaw_of, unsupported_class};
+ghost use Rattle.http_bodies.specs.Pairs.{pairs_of};
 ghost use Rattle.http_bodies.specs.Ranges.{size_in_range, class_in_range, tags_in_range};
 
 use crate::fault::BodyFault;
+use crate::pairs::{Texts, owned};
 use class_rules::Class;
 use office_base::{NameRefusal, Size, Tags};
 use std::alloc::Global;
@@ -40,15 +41,20 @@ pub(crate) fn class_in_range(alloc: Global, name: Option<&str>) -> Result<Class,
     }
 }
 
+// The most tags that there may be. More pairs are refused before they are copied.
+const MOST_TAGS: usize = 10;
+
 #[tactic(auto, unfolding(office_base::specs::Tags::are_tags, office_base::specs::Tags::by_key))]
-pub(crate) fn tags_in_range(
-    alloc: Global,
-    pairs: Option<Vec<(String, String)>>,
-) -> Result<Tags, BodyFault>
-    ensures { BodySays (λ tags. tags) result (tags_in_range (option_map (λ found. tags_of found.items) pairs)) }
+pub(crate) fn tags_in_range(alloc: Global, texts: Option<Texts<'_>>) -> Result<Tags, BodyFault>
+    ensures { BodySays (λ tags. tags) result (tags_in_range (option_map (λ found. pairs_of found.entries) texts.entry)) }
 {
-    let pairs = match pairs {
-        Some(pairs) => pairs,
+    let pairs = match texts {
+        Some(texts) => {
+            if texts.len() > MOST_TAGS {
+                return Err(BodyFault::BadTags);
+            }
+            owned(alloc, texts)?
+        }
         None => Vec::new(alloc),
     };
     match Tags::read(alloc, pairs) {

@@ -2,7 +2,7 @@
 ghost use Rattle.http_bodies.specs.Flaws.{BodySays};
 ghost use Rattle.http_bodies.specs.Settings.{versioning_of, tagging_of};
 
-use crate::body::{needed_pairs, read_object, status};
+use crate::body::{needed_texts, read_object, status};
 use crate::fault::BodyFault;
 use crate::ranges::tags_in_range;
 use json::Scratch;
@@ -46,6 +46,6 @@ pub fn read_tags(alloc: Global, bytes: &[u8]) -> Result<Tags, BodyFault>
 {
     let mut scratch = Scratch::new(alloc);
     let document = read_object(alloc, bytes, &mut scratch, &["tags"])?;
-    let pairs = needed_pairs(alloc, &document.root(), "tags")?;
-    tags_in_range(alloc, Some(pairs))
+    let texts = needed_texts(alloc, &document.root(), "tags")?;
+    tags_in_range(alloc, Some(texts))
 }

@@ -111,7 +111,7 @@ module _ (p : List ℕ → Bool) where
     where
       go : (o : Ordering) → find p (names_of (put k d ms)) ≡ find p (names_of ms)
           → find p (names_of (match_ordering o (member k d (member l e ms)) (member l d ms) (member l e (put k d ms))))
-            ≡ find p (names_of (member l e ms))
+          ≡ find p (names_of (member l e ms))
       go Less more = rw fails refl
       go Equal more = refl
       go Greater more = ap (λ rest. cond (p l) (Some l) rest) more
@@ -134,7 +134,7 @@ module _ (p : List ℕ → Bool) where
       go : (o : Ordering) → order k l ≡ o → (b : Bool) → p l ≡ b
           → find p (names_of (put k d ms)) ≡ earlier (Some k) (find p (names_of ms))
           → find p (names_of (match_ordering o (member k d (member l e ms)) (member l d ms) (member l e (put k d ms))))
-            ≡ earlier (Some k) (find p (names_of (member l e ms)))
+          ≡ earlier (Some k) (find p (names_of (member l e ms)))
       go Less is b tested more =
           rw passes (sym (first_of_all k (member l e ms) (is, after-earlier k l ms is all.0)))
       go Equal is b tested more =
@@ -166,7 +166,7 @@ earlier-assoc (Some x) n (Some z) = go (is_gt (order x n)) refl (is_gt (order n 
         → earlier (cond b (Some n) (Some x)) (Some z) ≡ earlier (Some x) (cond c (Some z) (Some n))
     go true first true second =
         let down : order z x ≡ Less =
-            nat_list_cmp_total.trans z n x (back n z (gt_is _ second)) (back x n (gt_is _ first)) in
+        nat_list_cmp_total.trans z n x (back n z (gt_is _ second)) (back x n (gt_is _ first)) in
         let after : order x z ≡ Greater = nat_list_cmp_total.antisymm x z ∙ ap ordering_reverse down in
         rw (second, after) refl
     go true first false second = rw (second, first) refl
@@ -182,7 +182,7 @@ names-put k d e (member l f ms) = go (order k l) (names-put k d e ms)
   where
     go : (o : Ordering) → names_of (put k d ms) ≡ names_of (put k e ms)
         → names_of (match_ordering o (member k d (member l f ms)) (member l d ms) (member l f (put k d ms)))
-          ≡ names_of (match_ordering o (member k e (member l f ms)) (member l e ms) (member l f (put k e ms)))
+        ≡ names_of (match_ordering o (member k e (member l f ms)) (member l e ms) (member l f (put k e ms)))
     go Less more = refl
     go Equal more = refl
     go Greater more = ap (λ names. l ∷ names) more
@@ -194,7 +194,7 @@ names-put_again k d e (member l f ms) = go (order k l) refl (names-put_again k d
   where
     go : (o : Ordering) → order k l ≡ o → names_of (put k d (put k e ms)) ≡ names_of (put k d ms)
         → names_of (put k d (match_ordering o (member k e (member l f ms)) (member l e ms) (member l f (put k e ms))))
-          ≡ names_of (match_ordering o (member k d (member l f ms)) (member l d ms) (member l f (put k d ms)))
+        ≡ names_of (match_ordering o (member k d (member l f ms)) (member l d ms) (member l f (put k d ms)))
     go Less is more = rw (tied_itself nat_list_cmp_total k) refl
     go Equal is more = rw is refl
     go Greater is more = rw is (ap (λ names. l ∷ names) more)
@@ -226,6 +226,7 @@ two_names k q d e (member l f ms) other = go (order q l) refl (two_names k q d e
     long Less n g rest some = omega arith
     long Equal n g rest some = omega (arith, some)
     long Greater n g rest some = omega (arith, some_name k d rest)
+
     go : (o : Ordering) → order q l ≡ o → 1 < length (names_of (put k d (put q e ms)))
         → 1 < length (names_of (put k d (match_ordering o (member q e (member l f ms)) (member l e ms) (member l f (put q e ms)))))
     go Less is more = long (order k q) q e (member l f ms) (omega arith)

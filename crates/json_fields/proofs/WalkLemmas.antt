@@ -22,7 +22,7 @@ values_of-some nodes some =
     let node = get_or nodes n Null in
     let whole : take (n + 1) nodes ≡ nodes = take_all (n + 1) nodes (omega arith) in
     let is : values_of nodes ≡ onto (values_of (take n nodes)) node =
-        ap values_of (sym whole) ∙ values_of-take nodes n Null (omega arith) in
+    ap values_of (sym whole) ∙ values_of-take nodes n Null (omega arith) in
     let P : List Data → Type 0 = λ stack. stack ≡ top stack ∷ drop 1 stack in
     subst P (sym is) (onto-some (values_of (take n nodes)) node)
 
@@ -56,11 +56,11 @@ items_from_end n nodes more is = ap (λ stack. items_from n stack more) (values_
 -- the next field
 pub members_from_step : (n : ℕ) (nodes rest : List Node) → 2 ≤ n → values_of rest ≡ drop 1 (values_of nodes) → 0 < length rest
     → members_from n (values_of nodes)
-      ≡ put (text_in (value_of nodes)) (value_of rest) (members_from (n - 2) (drop 1 (values_of rest)))
+    ≡ put (text_in (value_of nodes)) (value_of rest) (members_from (n - 2) (drop 1 (values_of rest)))
 members_from_step n nodes rest counted is some =
     let e : n ≡ n - 2 + 2 = omega arith in
     let two : values_of nodes ≡ value_of nodes ∷ value_of rest ∷ drop 1 (values_of rest) =
-        two_on_top (values_of nodes) (value_of rest) (drop 1 (values_of rest)) (sym is ∙ values_of-some rest some) in
+    two_on_top (values_of nodes) (value_of rest) (drop 1 (values_of rest)) (sym is ∙ values_of-some rest some) in
     ap (members_from n) two ∙ ap (λ k. members_from k (value_of nodes ∷ value_of rest ∷ drop 1 (values_of rest))) e
     ∙ members_from-more (n - 2) (value_of nodes) (value_of rest) (drop 1 (values_of rest))
 

@@ -13,13 +13,7 @@ fn earlier<'a>(first: Option<&'a str>, name: &'a str) -> &'a str
     ensures { Some result.now ≡ earlier (option_map (λ n. n.now) first.entry) (Some name.now) }
 {
     match first {
-        Some(first) => {
-            if first > name {
-                name
-            } else {
-                first
-            }
-        }
+        Some(first) => { if first > name { name } else { first } }
         None => name,
     }
 }

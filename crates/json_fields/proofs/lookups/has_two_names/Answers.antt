@@ -13,12 +13,12 @@ returns-then-ne c =
     let rest = fields_left c.next-in-others.new.self in
     let value = data_of c.in-Some-next.field-0-1 in
     let counted = ap names_of c.in-Some.ensures.value ∙ names-put first (data_of c.in-Some.field-0-1) null (fields_left c.next.new.self)
-        ∙ sym c.others.invariant in
+    ∙ sym c.others.invariant in
     let apart : name ≡ first → ⊥ = search (rules, bytes_eq-Decides) in
     let other : first ≡ name → ⊥ = λ (same : first ≡ name). apart (sym same) in
     let same_len = ap length (counted ∙ ap (λ ms. names_of (put first null ms)) c.in-Some-next.ensures.value) in
     let long : 1 < length (names_of (fields_left c.args.fields)) =
-        omega (arith, same_len, two_names first name null value rest other) in
+    omega (arith, same_len, two_names first name null value rest other) in
     grind (arith, long)
 
 pub others-preserved : goal.others-preserved
@@ -37,5 +37,5 @@ pub returns : goal.returns
 returns c =
     let first = c.in-Some.first.now in
     let counted = ap names_of c.in-Some.ensures.value ∙ names-put first (data_of c.in-Some.field-0-1) null (fields_left c.next.new.self)
-        ∙ sym c.others.invariant in
+    ∙ sym c.others.invariant in
     sym (ap (λ names. nat_lt 1 (length names)) (counted ∙ ap (λ ms. names_of (put first null ms)) c.in_default-next.ensures.value))

@@ -19,7 +19,7 @@ abbrev pub invariant-read_items-items : goal.invariant-read_items-items
 invariant-read_items-items l =
     (n : ℕ) × (length l.reader ≤ n)
     × (converted of_items (items (value l.depth) (length l.initial.reader) l.initial.reader)
-      ≡ parse_map (items_from l.count (values_of l.nodes.items)) (converted of_items (items (value l.depth) n l.reader)))
+    ≡ parse_map (items_from l.count (values_of l.nodes.items)) (converted of_items (items (value l.depth) n l.reader)))
     × (length l.reader ≤ length l.initial.reader)
     × (drop l.count (values_of l.nodes.items) ≡ values_of l.initial.nodes.items)
     × (l.count + vec_len l.initial.nodes ≤ vec_len l.nodes)
@@ -32,7 +32,7 @@ abbrev pub invariant-read_members-members : goal.invariant-read_members-members
 invariant-read_members-members l =
     (n : ℕ) × (length l.reader ≤ n)
     × (converted (λ ms. of_members ms no_members) (members (value l.depth) (length l.initial.reader) l.initial.reader)
-      ≡ converted (λ ms. of_members ms (members_from l.count (values_of l.nodes.items))) (members (value l.depth) n l.reader))
+    ≡ converted (λ ms. of_members ms (members_from l.count (values_of l.nodes.items))) (members (value l.depth) n l.reader))
     × (length l.reader ≤ length l.initial.reader)
     × (drop l.count (values_of l.nodes.items) ≡ values_of l.initial.nodes.items)
     × (l.count + vec_len l.initial.nodes ≤ vec_len l.nodes)

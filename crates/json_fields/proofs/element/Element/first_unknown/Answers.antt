@@ -23,7 +23,7 @@ names-preserved-then-not-is_known c =
     ap (λ f. earlier f (found (fields_left left))) c.earlier.ensures
     ∙ earlier-assoc first name (found (fields_left left))
     ∙ ap (earlier first) (sym (ap found c.in-Some.ensures.value
-        ∙ find-passing unknown name _ (fields_left left) (in_order-from left.left (values_of left.nodes.now)) passes))
+    ∙ find-passing unknown name _ (fields_left left) (in_order-from left.left (values_of left.nodes.now)) passes))
     ∙ c.names.invariant
 
 pub names-preserved : goal.names-preserved
