@@ -13,32 +13,43 @@ const LAST_WAIT: u64 = 1;
 /// How many bytes such a read takes.
 const LAST_ROOM: usize = 65536;
 
-/// A handle of a stream that sends. Dropping it ends the sending side, and a read through the stream's other handles
-/// then waits no longer than a second.
-#[derive(Debug)]
-pub struct Sending {
-    stream: TcpStream,
+/// A stream whose sending side can be ended.
+pub trait Ending: Write {
+    /// Ends the sending side. A read through the stream's other handles then waits no longer than a second.
+    fn end(&self);
 }
 
-impl Sending {
+// If the peer is gone already, the system refuses both calls, and nothing is left to do.
+impl Ending for TcpStream {
+    fn end(&self) {
+        let _ = self.set_read_timeout(Some(Duration::from_secs(LAST_WAIT)));
+        let _ = self.shutdown(Shutdown::Write);
+    }
+}
+
+/// A handle of a stream that sends: each byte that it takes goes to the stream. Dropping it ends the sending side.
+#[derive(Debug)]
+pub struct Sending<W: Ending + Drop> {
+    stream: W,
+}
+
+impl<W: Ending + Drop> Sending<W> {
     /// Takes a handle of a stream.
-    pub fn new(stream: TcpStream) -> Self {
+    pub fn new(stream: W) -> Self {
         Sending { stream }
     }
 }
 
-// If the peer is gone already, the system refuses both calls, and nothing is left to do.
-impl Drop for Sending {
+impl<W: Ending + Drop> Drop for Sending<W> {
     fn drop(self) {
-        let _ = self
-            .stream
-            .set_read_timeout(Some(Duration::from_secs(LAST_WAIT)));
-        let _ = self.stream.shutdown(Shutdown::Write);
+        self.stream.end();
         let Sending { stream: _ } = self;
     }
 }
 
-impl Write for Sending {
+impl<W: Ending + Drop> Write for Sending<W> {
+    ghost contents = { λ s. W.contents s.stream };
+
     fn write(&mut self, buf: &[u8]) -> io::Result<usize> {
         self.stream.write(buf)
     }
