@@ -2,11 +2,13 @@
 use Rattle.std.proofs.Common.{◌≡◌, inl, inr, ℕ, List, [], ◌∷◌, ◌++◌, refl, sym, ◌∙◌, ap, subst, append_assoc}
 use Rattle.disk_core.specs.Files.{File, State, IsImage}
 use Rattle.disk_core.specs.Fronts.{Narrower}
+use Rattle.disk_core.proofs.Crash.{synced_image}
 use Rattle.office_types.specs.declared.command.Entry.{Entry}
 use Rattle.plain_office.specs.Office.{Office}
 use Rattle.meter_journal.specs.History.{header}
 use Rattle.meter_journal.proofs.Unique.{entries_unique}
 use Rattle.desk_core.specs.Histories.{HasAcceptedHistory, Images, AreImages, IsOfHistory, FitsHistory, Stands, IsSound}
+use Rattle.desk_core.specs.Histories.{started_from, RestartsSound}
 
 pub one_history : (a b : List Entry) (file : List ℕ) → HasAcceptedHistory a file → HasAcceptedHistory b file → a ≡ b
 one_history a b file first second = entries_unique header a b file first.entries second.entries
@@ -51,6 +53,14 @@ narrower_sound first s sound narrow images are = sound images (record {
   journal = narrow.journal images.journal are.journal;
   slot0 = subst (λ (f : File). IsImage f images.slot0) narrow.slot0 are.slot0;
   slot1 = subst (λ (f : File). IsImage f images.slot1) narrow.slot1 are.slot1;
+})
+
+-- and so it is after a crash, which leaves one image of each file
+pub restarts_sound : (s : State) → IsSound s → RestartsSound s
+restarts_sound s sound left are images is = sound images (record {
+  journal = subst (λ (file : List ℕ). IsImage s.journal file) (sym (synced_image left.journal images.journal is.journal)) are.journal;
+  slot0 = subst (λ (file : List ℕ). IsImage s.slot0 file) (sym (synced_image left.slot0 images.slot0 is.slot0)) are.slot0;
+  slot1 = subst (λ (file : List ℕ). IsImage s.slot1 file) (sym (synced_image left.slot1 images.slot1 is.slot1)) are.slot1;
 })
 
 -- and where each image of the journal begins with the history that all of them had at first

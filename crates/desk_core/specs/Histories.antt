@@ -1,6 +1,6 @@
 -- What an image of the disk stands for.
 use Rattle.std.specs.Prelude.{◌≡◌, ◌⊎◌, ℕ, List, ◌++◌, ◌∷◌, [], Some, IsSome}
-use Rattle.disk_core.specs.Files.{State, IsImage}
+use Rattle.disk_core.specs.Files.{State, IsImage, synced_file}
 use Rattle.office_types.specs.declared.command.Entry.{Entry}
 use Rattle.plain_office.specs.Office.{Office}
 use Rattle.plain_office.specs.Run.{run}
@@ -56,6 +56,18 @@ pub record Stands (history : List Entry) (images : Images) : Type 0 where
 -- whatever a crash leaves stands for some history: only an office wrote the files
 abbrev pub IsSound : State → Type 0
 IsSound s = (images : Images) → AreImages s images → (history : List Entry) × Stands history images
+
+-- the files of a machine that starts again after a crash: each is what the crash left of it, and nothing else
+abbrev pub started_from : Images → State
+started_from images = record {
+  journal = synced_file images.journal;
+  slot0 = synced_file images.slot0;
+  slot1 = synced_file images.slot1;
+}
+
+-- whatever a crash leaves of the files is sound when the machine starts again
+abbrev pub RestartsSound : State → Type 0
+RestartsSound s = (images : Images) → AreImages s images → IsSound (started_from images)
 
 -- each image of each slot fits the history, if it decodes
 pub record SlotsFit (history : List Entry) (s : State) : Type 0 where

@@ -1,5 +1,7 @@
 // What time it is.
-ghost use Rattle.std.specs.Prelude.{◌≡◌, ◌+◌, ◌-◌, ◌^◌, ◌<◌, ◌≤◌, min, ◌∷◌, [], ℕ, List, Option, Some, None};
+ghost use Rattle.std.specs.Prelude.{◌≡◌, ◌+◌, ◌-◌, ◌/◌, ◌^◌, ◌<◌, ◌≤◌, ◌↔◌, min, ◌∷◌, [], ℕ, List, Option, Some, None};
+ghost use Rattle.std.specs.Prelude.{IsSome, IfSome};
+ghost use Rattle.std.specs.Time.{system_time_nanos};
 ghost use Rattle.std.specs.Io.KnownBytes.{Appends};
 ghost use Rattle.desk_core.specs.Clocks.{number_at, numbers_told};
 
@@ -99,11 +101,18 @@ impl<T: SystemTimes + Drop> SystemClock<T> {
     }
 }
 
-// None where the machine does not answer, or its time is before 1970 or past the greatest `u64`.
-fn milliseconds<T: SystemTimes>(times: &T) -> Option<u64> {
-    let now = SystemTime::now(times).ok()?;
+// A time in milliseconds since 1970-01-01 00:00 UTC; None if their number is past the greatest `u64`.
+fn milliseconds_of(now: SystemTime) -> Option<u64>
+    ensures variant { IsSome result ↔ (system_time_nanos now / 1_000_000 < 2 ^ 64) }
+    ensures some { IfSome result (λ number. number ≡ system_time_nanos now / 1_000_000) }
+{
     let since = now.duration_since(UNIX_EPOCH).ok()?;
     u64::try_from(since.as_millis()).ok()
+}
+
+// None where the machine does not answer, or its time is before 1970 or past the greatest `u64`.
+fn milliseconds<T: SystemTimes>(times: &T) -> Option<u64> {
+    milliseconds_of(SystemTime::now(times).ok()?)
 }
 
 impl<T: SystemTimes + Drop> Clock for SystemClock<T> {

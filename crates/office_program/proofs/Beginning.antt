@@ -1,4 +1,4 @@
--- A disk without a journal is sound from `init` on.
+-- A disk without a journal is sound from `init` on, and after each crash.
 use Rattle.std.proofs.Common.{◌≡◌, ◌⊎◌, ⊎_elim, arith, inl, inr, ℕ, List, [], Option, Some, None, subst}
 use Rattle.std.specs.Prelude.{IsTrue}
 use Rattle.std.proofs.lemmas.Option.{same_Some}
@@ -11,12 +11,15 @@ use Rattle.meter_journal.specs.declared.fault.OpenFault.TheVariants as faults
 use Rattle.meter_journal.specs.declared.making.Made.{Made}
 use Rattle.meter_journal.specs.declared.making.Made.TheVariants as mades
 use Rattle.meter_journal.proofs.Heads.{made_not_none}
-use Rattle.desk_core.specs.Histories.{HasAcceptedHistory, IsSound, SlotsFit}
+use Rattle.disk_core.specs.Moments.{KeepsTo}
+use Rattle.disk_core.proofs.Time.{weakened}
+use Rattle.desk_core.specs.Histories.{HasAcceptedHistory, IsSound, RestartsSound, SlotsFit}
+use Rattle.desk_core.proofs.Staying.{restarts_sound}
 use Rattle.http_front.specs.declared.replies.Replies as sinks
 use Rattle.command_line.specs.Lines.{Line, init}
 use Rattle.office_commands.specs.Lines.{fault_exit}
 use Rattle.office_commands.specs.Making.{IsMadeSo, Inits}
-use Rattle.office_program.specs.Program.{Does, Obeys, BeginsSound}
+use Rattle.office_program.specs.Program.{Does, Obeys, StaysSound, LeavesSound, BeginsSound}
 use Rattle.office_program.specs.Worlds.{World, Parts}
 
 -- a journal without entries, beside slots that fit it
@@ -53,11 +56,17 @@ init_begins d w old new out_old out_new status inits honest none fit done =
     (λ makes. made_sound makes.made (d.state old) (d.state new) (makes.is_made honest) none fit (inits.any_moment honest).now)
     (λ fails. absurd (not_done fails.fault status fails.status_is done)) inits.ends
 
+with_restart : (s : State) → IsSound s → IsSound s × RestartsSound s
+with_restart s sound = (sound, restarts_sound s sound)
+
 module _ {S D C W P Source Replies K : Type 0} (g : Parts S D C W P Source Replies K) where
+  pub leaves_sound : (old new : World S D C W P K) (status : ℕ) → StaysSound g old new status → LeavesSound g old new
+  leaves_sound old new status stays honest sound = weakened RestartsSound (stays honest sound).1 restarts_sound
+
   pub begins : (line : Option Line) (old new : World S D C W P K) (status : ℕ) → Obeys g line old new status → BeginsSound g line old new status
   begins (Some line) old new status (inl does) honest is none fit done =
-      init_begins g.disk g.out old.disk new.disk old.out new.out status
-      (subst (λ (l : Line). Does g l old new status) (same_Some line init is) does).0 honest none fit done
+      with_restart _ (init_begins g.disk g.out old.disk new.disk old.out new.out status
+      (subst (λ (l : Line). Does g l old new status) (same_Some line init is) does).0 honest none fit done)
   begins (Some line) old new status (inr unread) honest is none fit done =
       absurd (omega (arith, unread.runs_out.status_is, done))
   begins None old new status obeys honest is none fit done = absurd cc

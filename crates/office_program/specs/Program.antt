@@ -4,7 +4,7 @@ use Rattle.disk_core.specs.Moments.{KeepsTo}
 use Rattle.meter_journal.specs.Reading.{IsForeign, IsNotMade}
 use Rattle.office_types.specs.declared.command.Entry.{Entry}
 use Rattle.command_line.specs.Lines.{Line, init, serve, bill, forecast}
-use Rattle.desk_core.specs.Histories.{HasAcceptedHistory, IsSound, SlotsFit}
+use Rattle.desk_core.specs.Histories.{HasAcceptedHistory, IsSound, RestartsSound, SlotsFit}
 use Rattle.http_wire.specs.Held.{take_limit}
 use Rattle.http_front.specs.Counts.{GaveBytes}
 use Rattle.office_commands.specs.Lines.{usage_note}
@@ -61,12 +61,18 @@ module _ {S D C W P Source Replies K : Type 0} (g : Parts S D C W P Source Repli
   StaysSound old new status = IsTrue g.disk.honest → IsSound (g.disk.state old.disk)
       → (status ≡ 5 → ⊥) × KeepsTo g.disk old.disk new.disk IsSound
 
-  -- On an honest disk without a journal, `init` leaves a sound disk, also if its line was printed only in part. Each slot
-  -- that decodes must be of a journal without entries. In a new folder there is none.
+  -- Whatever a crash at any moment leaves of an honest and sound disk is sound when the machine starts again: the next
+  -- run begins on such a disk.
+  abbrev pub LeavesSound : World S D C W P K → World S D C W P K → Type 0
+  LeavesSound old new = IsTrue g.disk.honest → IsSound (g.disk.state old.disk)
+      → KeepsTo g.disk old.disk new.disk RestartsSound
+
+  -- On an honest disk without a journal, `init` leaves a sound disk, also if its line was printed only in part, and so
+  -- does a crash after it. Each slot that decodes must be of a journal without entries. In a new folder there is none.
   abbrev pub BeginsSound : Option Line → World S D C W P K → World S D C W P K → ℕ → Type 0
   BeginsSound line old new status = IsTrue g.disk.honest → line ≡ Some init
       → IsNotMade (g.disk.state old.disk).journal.seen → SlotsFit [] (g.disk.state old.disk)
-      → (status ≡ 0) ⊎ (status ≡ 4) → IsSound (g.disk.state new.disk)
+      → (status ≡ 0) ⊎ (status ≡ 4) → IsSound (g.disk.state new.disk) × RestartsSound (g.disk.state new.disk)
 
   -- A command line is done if nothing outside fails and the clock is not at its end. The disk must be sound, or for
   -- `init`, its journal must not be foreign.

@@ -4,7 +4,7 @@ ghost use Rattle.http_front.specs.declared.answering.SessionEnd.TheVariants.{NoM
 ghost use Rattle.office_commands.specs.Lines.{usage_note, end_note};
 ghost use Rattle.office_commands.specs.Running.{IsNoted, IsSilent};
 ghost use Rattle.office_program.specs.Commands.{asks};
-ghost use Rattle.office_program.specs.Program.{Obeys, Touches, HasExitCause, StaysSound, BeginsSound};
+ghost use Rattle.office_program.specs.Program.{Obeys, Touches, HasExitCause, StaysSound, LeavesSound, BeginsSound};
 ghost use Rattle.office_program.specs.Program.{MustBeDone, MustBill, MustForecast};
 ghost use Rattle.office_program.specs.Survival.{Survives};
 ghost use Rattle.office_program.specs.Workers.{IsBalanced};
@@ -154,6 +154,13 @@ where
     ensures sound { StaysSound (parts S.Source D.Disk C.Clock W.Replies P.Port (G.let_through gate.now) K.BillKeeper)
         (world disk clock out.old input.old port.old keeper.old)
         (world result.disk result.clock out.new input.new port.new keeper.new) result.status }
+
+    // What a crash at any moment leaves of such a disk is sound when the machine starts again. So the next run begins on
+    // a sound disk, with the history that `survives` speaks of.
+    ensures restarts { LeavesSound
+        (parts S.Source D.Disk C.Clock W.Replies P.Port (G.let_through gate.now) K.BillKeeper)
+        (world disk clock out.old input.old port.old keeper.old)
+        (world result.disk result.clock out.new input.new port.new keeper.new) }
 
     // From `init` on an honest disk is sound, if it had no journal and no slot that decodes with entries.
     ensures begins { BeginsSound (parts S.Source D.Disk C.Clock W.Replies P.Port (G.let_through gate.now) K.BillKeeper)

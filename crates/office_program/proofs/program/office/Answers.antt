@@ -17,7 +17,7 @@ use Rattle.office_program.specs.Commands.{faults, IsDone}
 use Rattle.office_program.specs.Program.{Obeys}
 use Rattle.office_program.specs.Survival.{AnswersNothing, AnswersSafely}
 use Rattle.office_program.specs.Worlds.{parts, world}
-use Rattle.office_program.proofs.Beginning.{begins}
+use Rattle.office_program.proofs.Beginning.{begins, leaves_sound}
 use Rattle.office_program.proofs.Obeying.{refusal_obeys}
 use Rattle.office_program.proofs.Carried.{never_rose, is_line, owned, caused, needs_no_port}
 use Rattle.office_program.proofs.program.office.Goals as goal
@@ -258,3 +258,27 @@ returns-in_default-clause-begins g c =
     (world c.args.disk c.args.clock c.args.out.now c.args.input.now c.args.port.now c.args.keeper.now)
     (world c.carry_out.result.disk c.carry_out.result.clock c.carry_out.new.out c.carry_out.new.input c.args.port.now c.carry_out.new.keeper)
     c.carry_out.result.status (returns-in_default-clause-does g c)
+
+-- ---- after a crash
+
+pub returns-in-Serve-clause-restarts : goal.returns-in-Serve-clause-restarts
+returns-in-Serve-clause-restarts g c =
+    leaves_sound (parts g.S.Source g.D.Disk g.C.Clock g.W.Replies g.P.Port (g.G.Gate.let_through c.args.gate.now) g.K.BillKeeper)
+    (world c.args.disk c.args.clock c.args.out.now c.args.input.now c.args.port.now c.args.keeper.now)
+    (world c.serve.result.disk c.serve.result.clock c.serve.new.out c.args.input.now c.serve.new.port c.args.keeper.now)
+    c.serve.result.status (returns-in-Serve-clause-sound g c)
+
+pub returns-in-Err-clause-restarts : goal.returns-in-Err-clause-restarts
+returns-in-Err-clause-restarts g c =
+    let r = c.refuse_line-status in
+    leaves_sound (parts g.S.Source g.D.Disk g.C.Clock g.W.Replies g.P.Port (g.G.Gate.let_through c.args.gate.now) g.K.BillKeeper)
+    (world c.args.disk c.args.clock c.args.out.now c.args.input.now c.args.port.now c.args.keeper.now)
+    (world c.args.disk c.args.clock r.new.out c.args.input.now c.args.port.now c.args.keeper.now)
+    r.result (returns-in-Err-clause-sound g c)
+
+pub returns-in_default-clause-restarts : goal.returns-in_default-clause-restarts
+returns-in_default-clause-restarts g c =
+    leaves_sound (parts g.S.Source g.D.Disk g.C.Clock g.W.Replies g.P.Port (g.G.Gate.let_through c.args.gate.now) g.K.BillKeeper)
+    (world c.args.disk c.args.clock c.args.out.now c.args.input.now c.args.port.now c.args.keeper.now)
+    (world c.carry_out.result.disk c.carry_out.result.clock c.carry_out.new.out c.carry_out.new.input c.args.port.now c.carry_out.new.keeper)
+    c.carry_out.result.status c.carry_out.ensures.sound
