@@ -6,7 +6,7 @@ use Rattle.std.proofs.lemmas.List.{length-drop, drop-drop, drop_min, take_more}
 use Rattle.std.proofs.lemmas.List.Sums.{fold-append}
 use Rattle.json.specs.Token.{Token}
 use Rattle.json.specs.Json.{parse_map}
-use Rattle.serde_json.specs.Data.{Data, string, Items, item, Members, no_members, put}
+use Rattle.serde_json.specs.Data.{Data, string, Items, item, no_members, put}
 use Rattle.json_fields.specs.Nodes.{items_from, members_from, inside, onto, values_of, text_in}
 use Rattle.json_fields.specs.declared.node.Node.{Node}
 use Rattle.json_fields.specs.declared.node.Node.TheVariants.{Null, Truth, Number, Text, Array, Object}

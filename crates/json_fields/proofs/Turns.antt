@@ -1,109 +1,164 @@
--- The grammar's loops, a turn at a time, under the conversion to data.
-use Rattle.std.proofs.Common.{◌≡◌, ℕ, zero, suc, ◌-◌, ◌<◌, ◌≤◌, List, [], ◌∷◌, length, Option, Some, None, option_map, option_and_then, refl, ap, ◌∙◌}
+-- A turn of the grammar's loops, seen as data: what comes of it depends only on the data that was read, and on what follows.
+use Rattle.std.proofs.Common.{◌≡◌, ℕ, zero, suc, ◌≤◌, List, [], ◌∷◌, length, Option, Some, None, option_map, option_and_then, refl, ap, ◌∙◌}
 use Rattle.json.specs.Token.{Token}
 use Rattle.json.specs.Json as json
-use Rattle.json.specs.Json.{Parse, parse_map, after_end_array, read_key, items_step, items, members, if_last}
-use Rattle.json.proofs.Grammar.{items_end, items_more, members_end, members_no_key, members_more}
+use Rattle.json.specs.Json.{Parse, parse_map, after_end_array, read_key, items_step, members_step, items, members, if_last}
+use Rattle.json.proofs.Grammar.{items_end, members_end, members_no_key}
 use Rattle.serde_json.specs.Data.{Data, array, object, Items, no_items, item, Members, no_members, put}
 use Rattle.serde_json.specs.Read.{of_json, of_items, of_members, converted}
 
-abbrev pick : {A : Type 0} → A → Option A → A
-pick d None = d
-pick d (Some a) = a
+-- ---- data with what follows it
 
-found : {A B : Type 0} (a : A) (r s : List Token) (x : Option B) (b : B) → option_map {U = B × List Token} (λ y. (y, r)) x ≡ Some (b, s) → (r ≡ s) × (x ≡ Some b)
-found a r s None b e = absurd (cc)
-found a r s (Some y) b e = let same = ap (pick (y, r)) e in (ap (λ p. p.1) same, ap (λ p. Some p.0) same)
+abbrev Rest : Type 0 → Type 0
+Rest A = Option (A × List Token)
 
-pub converted_some : {A B : Type 0} (f : A → Option B) (o : Option (A × List Token)) (b : B) (r : List Token) → converted f o ≡ Some (b, r) → (a : A) × (o ≡ Some (a, r)) × (f a ≡ Some b)
-converted_some f None b r e = absurd (cc)
-converted_some f (Some p) b r e = let both = found p.0 p.1 r (f p.0) b e in (p.0, ap (λ s. Some (p.0, s)) both.0, both.1)
+paired : {A B : Type 0} (g : A → B) (rest : List Token) (x : Option A)
+    → option_map (λ b. (b, rest)) (option_map g x) ≡ parse_map g (option_map (λ a. (a, rest)) x)
+paired g rest None = refl
+paired g rest (Some a) = refl
 
-refused : {B : Type 0} (r : List Token) (x : Option B) → option_map {U = B × List Token} (λ y. (y, r)) x ≡ None → x ≡ None
-refused r None e = refl
-refused r (Some y) e = absurd (cc)
+pub in_array : (o : Rest json.Items) → converted of_json (parse_map json.array o) ≡ parse_map array (converted of_items o)
+in_array None = refl
+in_array (Some q) = paired array q.1 (of_items q.0)
 
-twice : {A B : Type 0} (g : A → B) (r : List Token) (x : Option A) → option_map (λ b. (b, r)) (option_map g x) ≡ parse_map g (option_map (λ a. (a, r)) x)
-twice g r None = refl
-twice g r (Some a) = refl
+pub in_object : (o : Rest json.Members)
+    → converted of_json (parse_map json.object o) ≡ parse_map object (converted (λ ms. of_members ms no_members) o)
+in_object None = refl
+in_object (Some q) = paired object q.1 (of_members q.0 no_members)
 
-pub converted-array : (o : Option (json.Items × List Token)) → converted of_json (parse_map json.array o) ≡ parse_map array (converted of_items o)
-converted-array None = refl
-converted-array (Some p) = twice array p.1 (of_items p.0)
+-- ---- items
 
-pub converted-object : (o : Option (json.Members × List Token)) → converted of_json (parse_map json.object o) ≡ parse_map object (converted (λ ms. of_members ms no_members) o)
-converted-object None = refl
-converted-object (Some p) = twice object p.1 (of_members p.0 no_members)
+-- an item, and then the others
+abbrev then_items : Parse Items → Rest Data → Rest Items
+then_items more first = option_and_then (λ q. parse_map (item q.0) (more q.1)) first
 
-with_item : (j : json.Json) (d : Data) → of_json j ≡ Some d → (o : Option (json.Items × List Token)) → converted of_items (parse_map (json.item j) o) ≡ parse_map (item d) (converted of_items o)
-with_item j d e None = refl
-with_item j d e (Some p) = rw e (twice (item d) p.1 (of_items p.0))
+before_items : (j : json.Json) (rest : List Token) (o : Rest json.Items) (x : Option Data) → of_json j ≡ x
+    → converted of_items (parse_map (json.item j) o) ≡ then_items (λ _. converted of_items o) (option_map (λ d. (d, rest)) x)
+before_items j rest None None is = refl
+before_items j rest None (Some d) is = refl
+before_items j rest (Some q) None is = rw is refl
+before_items j rest (Some q) (Some d) is = rw is (paired (item d) q.1 (of_items q.0))
 
-without_item : (j : json.Json) → of_json j ≡ None → (o : Option (json.Items × List Token)) → converted of_items (parse_map (json.item j) o) ≡ None
-without_item j e None = refl
-without_item j e (Some p) = rw e
+same_items : (more : Parse Items) (rest : List Token) (x : Option Data)
+    → then_items (λ _. more rest) (option_map (λ d. (d, rest)) x) ≡ then_items more (option_map (λ d. (d, rest)) x)
+same_items more rest None = refl
+same_items more rest (Some d) = refl
 
-with_member : (k : List ℕ) (j : json.Json) (d : Data) (old : Members) → of_json j ≡ Some d → (o : Option (json.Members × List Token))
-    → converted (λ ms. of_members ms old) (parse_map (json.member k j) o) ≡ converted (λ ms. of_members ms (put k d old)) o
-with_member k j d old e None = refl
-with_member k j d old e (Some p) = rw e
+items_turn : (more : Parse json.Items) (o : Rest json.Json)
+    → converted of_items (option_and_then (λ q. parse_map (json.item q.0) (more q.1)) o)
+    ≡ then_items (λ ts. converted of_items (more ts)) (converted of_json o)
+items_turn more None = refl
+items_turn more (Some q) =
+    before_items q.0 q.1 (more q.1) (of_json q.0) refl ∙ same_items (λ ts. converted of_items (more ts)) q.1 (of_json q.0)
 
-without_member : (k : List ℕ) (j : json.Json) (old : Members) → of_json j ≡ None → (o : Option (json.Members × List Token)) → converted (λ ms. of_members ms old) (parse_map (json.member k j) o) ≡ None
-without_member k j old e None = refl
-without_member k j old e (Some p) = rw e
+-- ---- members
+
+-- a member of this name after these, and then the others
+abbrev then_members : List ℕ → Members → Parse json.Members → Rest Data → Rest Members
+then_members name old more first = option_and_then (λ q. converted (λ ms. of_members ms (put name q.0 old)) (more q.1)) first
+
+before_members : (name : List ℕ) (old : Members) (j : json.Json) (rest : List Token) (o : Rest json.Members) (x : Option Data) → of_json j ≡ x
+    → converted (λ ms. of_members ms old) (parse_map (json.member name j) o)
+    ≡ then_members name old (λ _. o) (option_map (λ d. (d, rest)) x)
+before_members name old j rest None None is = refl
+before_members name old j rest None (Some d) is = refl
+before_members name old j rest (Some q) None is = rw is refl
+before_members name old j rest (Some q) (Some d) is = rw is refl
+
+same_members : (name : List ℕ) (old : Members) (more : Parse json.Members) (rest : List Token) (x : Option Data)
+    → then_members name old (λ _. more rest) (option_map (λ d. (d, rest)) x) ≡ then_members name old more (option_map (λ d. (d, rest)) x)
+same_members name old more rest None = refl
+same_members name old more rest (Some d) = refl
+
+members_turn : (name : List ℕ) (old : Members) (more : Parse json.Members) (o : Rest json.Json)
+    → converted (λ ms. of_members ms old) (option_and_then (λ q. parse_map (json.member name q.0) (more q.1)) o)
+    ≡ then_members name old more (converted of_json o)
+members_turn name old more None = refl
+members_turn name old more (Some q) =
+    before_members name old q.0 q.1 (more q.1) (of_json q.0) refl ∙ same_members name old more q.1 (of_json q.0)
+
+-- ---- the loops
 
 module _ (p : Parse json.Json) where
-  pub item_read : (n : ℕ) (ts r : List Token) (d : Data) → 0 < n → after_end_array ts ≡ None → converted of_json (p ts) ≡ Some (d, r)
-      → converted of_items (items p n ts) ≡ parse_map (item d) (converted of_items (items p (n - 1) r))
-  item_read n ts r d some going e = let j = converted_some of_json (p ts) d r e in ap (converted of_items) (items_more p n ts r j.0 some going j.1) ∙ with_item j.0 d j.2 _
-
-  no_item : (more : Parse json.Items) (o : Option (json.Json × List Token)) → converted of_json o ≡ None → converted of_items (option_and_then (λ q. parse_map (json.item q.0) (more q.1)) o) ≡ None
-  no_item more None e = refl
-  no_item more (Some q) e = without_item q.0 (refused q.1 (of_json q.0) e) (more q.1)
-
-  pub item_refused : (n : ℕ) (ts : List Token) → after_end_array ts ≡ None → converted of_json (p ts) ≡ None → converted of_items (items p n ts) ≡ None
+  items_going : (n : ℕ) (ts : List Token) → after_end_array ts ≡ None
+      → converted of_items (items p (suc n) ts) ≡ then_items (λ us. converted of_items (items p n us)) (converted of_json (p ts))
   unfolding items
-  item_refused zero ts going e = refl
-  item_refused (suc n) ts going e = ap (λ o. converted of_items (items_step p (items p n) ts o)) going ∙ no_item (items p n) (p ts) e
+  items_going n ts going =
+      ap (λ o. converted of_items (items_step p (items p n) ts o)) going ∙ items_turn (items p n) (p ts)
 
-  pub items_over : (n : ℕ) (ts r : List Token) → length ts ≤ n → after_end_array ts ≡ Some r → converted of_items (items p n ts) ≡ Some (no_items, r)
-  items_over n ts r enough e = ap (converted of_items) (items_end p n ts r enough e)
+  pub next_item : (n m : ℕ) (ts rest : List Token) (d : Data) → n ≡ suc m → after_end_array ts ≡ None → converted of_json (p ts) ≡ Some (d, rest)
+      → converted of_items (items p n ts) ≡ parse_map (item d) (converted of_items (items p m rest))
+  next_item n m ts rest d more going is =
+      ap (λ k. converted of_items (items p k ts)) more ∙ items_going m ts going
+      ∙ ap (then_items (λ us. converted of_items (items p m us))) is
+
+  pub no_next_item : (n : ℕ) (ts : List Token) → after_end_array ts ≡ None → converted of_json (p ts) ≡ None → converted of_items (items p n ts) ≡ None
+  unfolding items
+  no_next_item zero ts going none = refl
+  no_next_item (suc n) ts going none =
+      items_going n ts going ∙ ap (then_items (λ us. converted of_items (items p n us))) none
+
+  pub after_items : (n : ℕ) (ts rest : List Token) → length ts ≤ n → after_end_array ts ≡ Some rest → converted of_items (items p n ts) ≡ Some (no_items, rest)
+  after_items n ts rest enough ends = ap (converted of_items) (items_end p n ts rest enough ends)
 
   module _ (old : Members) where
-    pub member_read : (n : ℕ) (k : List ℕ) (ts s r : List Token) (d : Data) → 0 < n → read_key ts ≡ Some (Some k, s) → converted of_json (p s) ≡ Some (d, r)
-        → converted (λ ms. of_members ms old) (members p n ts) ≡ converted (λ ms. of_members ms (put k d old)) (members p (n - 1) r)
-    member_read n k ts s r d some key e =
-        let j = converted_some of_json (p s) d r e in
-        ap (converted (λ ms. of_members ms old)) (members_more p n k ts s r j.0 some key j.1) ∙ with_member k j.0 d old j.2 _
-
-    no_member : (k : List ℕ) (more : Parse json.Members) (o : Option (json.Json × List Token)) → converted of_json o ≡ None
-        → converted (λ ms. of_members ms old) (option_and_then (λ q. parse_map (json.member k q.0) (more q.1)) o) ≡ None
-    no_member k more None e = refl
-    no_member k more (Some q) e = without_member k q.0 old (refused q.1 (of_json q.0) e) (more q.1)
-
-    pub member_refused : (n : ℕ) (k : List ℕ) (ts s : List Token) → read_key ts ≡ Some (Some k, s) → converted of_json (p s) ≡ None → converted (λ ms. of_members ms old) (members p n ts) ≡ None
+    members_going : (n : ℕ) (name : List ℕ) (ts us : List Token) → read_key ts ≡ Some (Some name, us)
+        → converted (λ ms. of_members ms old) (members p (suc n) ts) ≡ then_members name old (members p n) (converted of_json (p us))
     unfolding members
-    member_refused zero k ts s key e = refl
-    member_refused (suc n) k ts s key e = rw key (no_member k (members p n) (p s) e)
+    members_going n name ts us key =
+        ap (λ o. converted (λ ms. of_members ms old) (option_and_then (λ q. members_step p (members p n) q.0 q.1) o)) key
+        ∙ members_turn name old (members p n) (p us)
 
-    pub key_refused : (n : ℕ) (ts : List Token) → read_key ts ≡ None → converted (λ ms. of_members ms old) (members p n ts) ≡ None
-    key_refused n ts e = ap (converted (λ ms. of_members ms old)) (members_no_key p n ts e)
+    pub next_member : (n m : ℕ) (name : List ℕ) (ts us rest : List Token) (d : Data) → n ≡ suc m → read_key ts ≡ Some (Some name, us)
+        → converted of_json (p us) ≡ Some (d, rest)
+        → converted (λ ms. of_members ms old) (members p n ts) ≡ converted (λ ms. of_members ms (put name d old)) (members p m rest)
+    next_member n m name ts us rest d more key is =
+        ap (λ k. converted (λ ms. of_members ms old) (members p k ts)) more ∙ members_going m name ts us key
+        ∙ ap (then_members name old (members p m)) is
 
-    pub members_over : (n : ℕ) (ts r : List Token) → length ts ≤ n → read_key ts ≡ Some (None, r) → converted (λ ms. of_members ms old) (members p n ts) ≡ Some (old, r)
-    members_over n ts r enough e = ap (converted (λ ms. of_members ms old)) (members_end p n ts r enough e)
+    pub no_next_member : (n : ℕ) (name : List ℕ) (ts us : List Token) → read_key ts ≡ Some (Some name, us) → converted of_json (p us) ≡ None
+        → converted (λ ms. of_members ms old) (members p n ts) ≡ None
+    unfolding members
+    no_next_member zero name ts us key none = refl
+    no_next_member (suc n) name ts us key none =
+        members_going n name ts us key ∙ ap (then_members name old (members p n)) none
+
+    pub no_key : (n : ℕ) (ts : List Token) → read_key ts ≡ None → converted (λ ms. of_members ms old) (members p n ts) ≡ None
+    no_key n ts none = ap (converted (λ ms. of_members ms old)) (members_no_key p n ts none)
+
+    pub after_members : (n : ℕ) (ts rest : List Token) → length ts ≤ n → read_key ts ≡ Some (None, rest)
+        → converted (λ ms. of_members ms old) (members p n ts) ≡ Some (old, rest)
+    after_members n ts rest enough ends = ap (converted (λ ms. of_members ms old)) (members_end p n ts rest enough ends)
 
 -- ---- the whole text
 
-abbrev pub whole : Option (json.Json × List Token) → Option Data
-whole o = option_and_then of_json (option_and_then (λ p. if_last p.0 p.1) o)
+-- the data, if nothing follows it
+abbrev alone : Rest Data → Option Data
+alone None = None
+alone (Some (d, [])) = Some d
+alone (Some (d, t ∷ rest)) = None
 
-pub whole_read : (o : Option (json.Json × List Token)) (d : Data) → converted of_json o ≡ Some (d, []) → whole o ≡ Some d
-whole_read o d e = let j = converted_some of_json o d [] e in ap whole j.1 ∙ j.2
+abbrev pub read_alone : Rest json.Json → Option Data
+read_alone o = option_and_then of_json (option_and_then (λ q. if_last q.0 q.1) o)
 
-pub whole_and_more : (o : Option (json.Json × List Token)) (d : Data) (t : Token) (r : List Token) → converted of_json o ≡ Some (d, t ∷ r) → whole o ≡ None
-whole_and_more o d t r e = ap whole (converted_some of_json o d (t ∷ r) e).1
+read_alone_is : (o : Rest json.Json) → read_alone o ≡ alone (converted of_json o)
+read_alone_is None = refl
+read_alone_is (Some (j, [])) = one (of_json j)
+  where
+    one : (x : Option Data) → x ≡ alone (option_map (λ d. (d, [])) x)
+    one None = refl
+    one (Some d) = refl
+read_alone_is (Some (j, t ∷ rest)) = none (of_json j)
+  where
+    none : (x : Option Data) → None ≡ alone (option_map (λ d. (d, t ∷ rest)) x)
+    none None = refl
+    none (Some d) = refl
 
-pub whole_refused : (o : Option (json.Json × List Token)) → converted of_json o ≡ None → whole o ≡ None
-whole_refused None e = refl
-whole_refused (Some (j, [])) e = refused [] (of_json j) e
-whole_refused (Some (j, t ∷ r)) e = refl
+pub text_read : (o : Rest json.Json) (d : Data) → converted of_json o ≡ Some (d, []) → read_alone o ≡ Some d
+text_read o d is = read_alone_is o ∙ ap alone is
+
+pub text_and_more : (o : Rest json.Json) (d : Data) (t : Token) (rest : List Token) → converted of_json o ≡ Some (d, t ∷ rest) → read_alone o ≡ None
+text_and_more o d t rest is = read_alone_is o ∙ ap alone is
+
+pub text_refused : (o : Rest json.Json) → converted of_json o ≡ None → read_alone o ≡ None
+text_refused o none = read_alone_is o ∙ ap alone none

@@ -1,7 +1,7 @@
 -- Elements and fields, one after another.
 use Rattle.std.proofs.Common.{◌≡◌, ℕ, zero, suc, ◌+◌, ◌-◌, ◌<◌, ◌≤◌, List, [], ◌∷◌, length, take, drop, get_or}
 use Rattle.std.proofs.Common.{refl, sym, ap, ◌∙◌, subst, arith, take_all}
-use Rattle.serde_json.specs.Data.{Data, Items, item, Members, no_members, put}
+use Rattle.serde_json.specs.Data.{Data, Items, item, no_members, put}
 use Rattle.json_fields.specs.Nodes.{items_from, members_from, onto, values_of, value_of, text_in, top}
 use Rattle.json_fields.specs.declared.node.Node.{Node}
 use Rattle.json_fields.specs.declared.node.Node.TheVariants.{Null, Truth, Number, Text, Array, Object}

@@ -1,5 +1,4 @@
 -- The data that elements of a document are.
-use Rattle.std.specs.Prelude.{ℕ}
 use Rattle.serde_json.specs.Data.{Data, Items, Members}
 use Rattle.json_fields.specs.Nodes.{items_from, members_from, values_of, value_of}
 use Rattle.json_fields.specs.declared.document.Document.{Document}

@@ -30,7 +30,7 @@ impl<'a> Document<'a> {
 }
 
 // Reads the value of a text.
-#[tactic(auto, using(crate::proofs::Turns::whole_read, crate::proofs::Turns::whole_and_more, crate::proofs::Turns::whole_refused))]
+#[tactic(auto, using(crate::proofs::Turns::text_read, crate::proofs::Turns::text_and_more, crate::proofs::Turns::text_refused))]
 fn read_text<'a>(
     alloc: Global,
     text: &'a str,

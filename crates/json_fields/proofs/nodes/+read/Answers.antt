@@ -1,13 +1,12 @@
-use Rattle.std.proofs.Common.{◌≡◌, ℕ, ◌-◌, ◌<◌, ◌≤◌, ◌∷◌, [], List, length, drop, Some, None, refl, sym, ap, ap₂, ◌∙◌, arith, rules}
-use Rattle.json.specs.Token as Token
+use Rattle.std.proofs.Common.{◌≡◌, ◌-◌, ◌<◌, ◌∷◌, [], length, Some, None, refl, sym, ap, ap₂, ◌∙◌, arith}
 use Rattle.json.specs.Reads.{token_of}
 use Rattle.json.specs.Json.{after_end_array, read_key, items, members, value, parse_map}
 use Rattle.json.proofs.Grammar.{value_is, value-begin_array, value-begin_object, read_key-shorter}
-use Rattle.serde_json.specs.Data.{Data, array, object, no_members, number, string}
-use Rattle.serde_json.specs.Read.{of_json, of_items, of_members, converted}
+use Rattle.serde_json.specs.Data.{array, object, string}
+use Rattle.serde_json.specs.Read.{of_json, of_members, converted}
 use Rattle.json_fields.specs.Nodes.{items_from, members_from, values_of, value_of, top}
 use Rattle.json_fields.proofs.NodeLemmas.{items_from-none, members_from-none, one_more_item, one_more_member, drop-more, drop-more_two}
-use Rattle.json_fields.proofs.Turns.{converted-array, converted-object, item_read, item_refused, items_over, member_read, member_refused, key_refused, members_over}
+use Rattle.json_fields.proofs.Turns.{in_array, in_object, next_item, no_next_item, after_items, next_member, no_next_member, no_key, after_members}
 use Rattle.json_fields.proofs.nodes.+read.Goals as goal
 
 pub read-returns-in_err-token-clause-err : goal.read-returns-in_err-token-clause-err
@@ -33,14 +32,14 @@ pub read-returns-in_err-count-in-BeginArray-clause-err : goal.read-returns-in_er
 read-returns-in_err-count-in-BeginArray-clause-err t c refused =
     let first : c.args.reader.now ≡ token_of c.in_ok-token.token ∷ c.next.new.self = grind arith in
     let opened = ap (converted of_json) (ap (value c.args.depth) (first ∙ ap (λ k. token_of k ∷ c.next.new.self) c.in-BeginArray.is)
-    ∙ value-begin_array c.args.depth c.next.new.self (omega arith)) ∙ converted-array (items (value (c.args.depth - 1)) (length c.next.new.self) c.next.new.self) in
+    ∙ value-begin_array c.args.depth c.next.new.self (omega arith)) ∙ in_array (items (value (c.args.depth - 1)) (length c.next.new.self) c.next.new.self) in
     opened ∙ ap (parse_map array) (c.read_items.ensures.err (grind arith))
 
 pub read-returns-in_err-count-in-BeginObject-clause-err : goal.read-returns-in_err-count-in-BeginObject-clause-err
 read-returns-in_err-count-in-BeginObject-clause-err t c refused =
     let first : c.args.reader.now ≡ token_of c.in_ok-token.token ∷ c.next.new.self = grind arith in
     let opened = ap (converted of_json) (ap (value c.args.depth) (first ∙ ap (λ k. token_of k ∷ c.next.new.self) c.in-BeginObject.is)
-    ∙ value-begin_object c.args.depth c.next.new.self (omega arith)) ∙ converted-object (members (value (c.args.depth - 1)) (length c.next.new.self) c.next.new.self) in
+    ∙ value-begin_object c.args.depth c.next.new.self (omega arith)) ∙ in_object (members (value (c.args.depth - 1)) (length c.next.new.self) c.next.new.self) in
     opened ∙ ap (parse_map object) (c.read_members.ensures.err (grind arith))
 
 pub read-returns-in_ok-put-in-String-clause-ok : goal.read-returns-in_ok-put-in-String-clause-ok
@@ -84,14 +83,14 @@ pub read-returns-in_ok-put-in-BeginArray-clause-ok : goal.read-returns-in_ok-put
 read-returns-in_ok-put-in-BeginArray-clause-ok t c =
     let first : c.args.reader.now ≡ token_of c.in_ok-token.token ∷ c.next.new.self = grind arith in
     let opened = ap (converted of_json) (ap (value c.args.depth) (first ∙ ap (λ k. token_of k ∷ c.next.new.self) c.in-BeginArray.is)
-    ∙ value-begin_array c.args.depth c.next.new.self (omega arith)) ∙ converted-array (items (value (c.args.depth - 1)) (length c.next.new.self) c.next.new.self) in
+    ∙ value-begin_array c.args.depth c.next.new.self (omega arith)) ∙ in_array (items (value (c.args.depth - 1)) (length c.next.new.self) c.next.new.self) in
     opened ∙ ap (parse_map array) c.in_ok-count-in-BeginArray.ensures.ok ∙ ap (λ d. Some (d, c.read_items.new.reader)) (sym (ap top c.in_ok-put-in-BeginArray.ensures.value))
 
 pub read-returns-in_ok-put-in-BeginObject-clause-ok : goal.read-returns-in_ok-put-in-BeginObject-clause-ok
 read-returns-in_ok-put-in-BeginObject-clause-ok t c =
     let first : c.args.reader.now ≡ token_of c.in_ok-token.token ∷ c.next.new.self = grind arith in
     let opened = ap (converted of_json) (ap (value c.args.depth) (first ∙ ap (λ k. token_of k ∷ c.next.new.self) c.in-BeginObject.is)
-    ∙ value-begin_object c.args.depth c.next.new.self (omega arith)) ∙ converted-object (members (value (c.args.depth - 1)) (length c.next.new.self) c.next.new.self) in
+    ∙ value-begin_object c.args.depth c.next.new.self (omega arith)) ∙ in_object (members (value (c.args.depth - 1)) (length c.next.new.self) c.next.new.self) in
     opened ∙ ap (parse_map object) c.in_ok-count-in-BeginObject.ensures.ok ∙ ap (λ d. Some (d, c.read_members.new.reader)) (sym (ap top c.in_ok-put-in-BeginObject.ensures.value))
 
 pub read_items-items-init : goal.read_items-items-init
@@ -104,7 +103,7 @@ read_items-returns-in_err-read-clause-err t c refused =
     let l = c.items in
     let n = l.invariant.0 in
     let going : (after_end_array l.reader ≡ None) × (c.take_end_array.new.self ≡ l.reader) = grind arith in
-    l.invariant.2 ∙ ap (parse_map (items_from l.count (values_of l.nodes.items))) (item_refused p n l.reader going.0 (rw (← going.1) (c.read.ensures.err (grind arith))))
+    l.invariant.2 ∙ ap (parse_map (items_from l.count (values_of l.nodes.items))) (no_next_item p n l.reader going.0 (rw (← going.1) (c.read.ensures.err (grind arith))))
 
 pub read_items-items-preserved : goal.read_items-items-preserved
 read_items-items-preserved t c =
@@ -117,7 +116,7 @@ read_items-items-preserved t c =
     let nodes = c.read.new.nodes.items in
     let r = c.read.new.reader in
     let less : length r < length l.reader = rw (← going.1) done.shorter in
-    let turn = item_read p n l.reader r (value_of nodes) (omega (arith, l.invariant.1)) going.0 (rw (← going.1) done.ok) in (
+    let turn = next_item p n (n - 1) l.reader r (value_of nodes) (omega (arith, l.invariant.1)) going.0 (rw (← going.1) done.ok) in (
       n - 1,
       omega (arith, l.invariant.1),
       l.invariant.2 ∙ ap (parse_map (items_from l.count old)) turn ∙ one_more_item l.count (value_of nodes) old (values_of nodes) done.pushed _,
@@ -132,7 +131,7 @@ read_items-returns-clause-ok t c =
     let l = c.items in
     let n = l.invariant.0 in
     let r = c.take_end_array.new.self in
-    l.invariant.2 ∙ ap (parse_map (items_from l.count (values_of l.nodes.items))) (items_over p n l.reader r l.invariant.1 (grind arith))
+    l.invariant.2 ∙ ap (parse_map (items_from l.count (values_of l.nodes.items))) (after_items p n l.reader r l.invariant.1 (grind arith))
 
 pub read_members-members-init : goal.read_members-members-init
 read_members-members-init t c =
@@ -144,7 +143,7 @@ pub read_members-returns-in_err-name-clause-err : goal.read_members-returns-in_e
 read_members-returns-in_err-name-clause-err t c refused =
     let p = value c.args.depth in
     let l = c.members in
-    l.invariant.2 ∙ key_refused p (members_from l.count (values_of l.nodes.items)) l.invariant.0 l.reader c.in_err-name.ensures.value
+    l.invariant.2 ∙ no_key p (members_from l.count (values_of l.nodes.items)) l.invariant.0 l.reader c.in_err-name.ensures.value
 
 pub read_members-returns-in_err-read-clause-err : goal.read_members-returns-in_err-read-clause-err
 read_members-returns-in_err-read-clause-err t c refused =
@@ -153,7 +152,7 @@ read_members-returns-in_err-read-clause-err t c refused =
     let k = c.in-Some.name.now in
     let s = c.next_key.new.self in
     let named : read_key l.reader ≡ Some (Some k, s) = grind arith in
-    l.invariant.2 ∙ member_refused p (members_from l.count (values_of l.nodes.items)) l.invariant.0 k l.reader s named (c.read.ensures.err (grind arith))
+    l.invariant.2 ∙ no_next_member p (members_from l.count (values_of l.nodes.items)) l.invariant.0 k l.reader s named (c.read.ensures.err (grind arith))
 
 pub read_members-members-preserved : goal.read_members-members-preserved
 read_members-members-preserved t c =
@@ -174,7 +173,7 @@ read_members-members-preserved t c =
     let stack : values_of nodes ≡ string k ∷ d ∷ old = c.in_ok-put.ensures.value ∙ ap (λ st. string k ∷ st) done.pushed in (
       n - 1,
       omega (arith, l.invariant.1),
-      l.invariant.2 ∙ member_read p (members_from l.count old) n k l.reader s r d (omega (arith, l.invariant.1)) named done.ok
+      l.invariant.2 ∙ next_member p (members_from l.count old) n (n - 1) k l.reader s r d (omega (arith, l.invariant.1)) named done.ok
           ∙ ap (λ found. converted (λ ms. of_members ms found) (members p (n - 1) r)) (sym (one_more_member l.count k d old (values_of nodes) stack)),
       omega (arith, l.invariant.3),
       drop-more_two l.count (string k) d old (values_of nodes) stack ∙ l.invariant.4,
@@ -185,4 +184,4 @@ pub read_members-returns-clause-ok : goal.read_members-returns-clause-ok
 read_members-returns-clause-ok t c =
     let p = value c.args.depth in
     let l = c.members in
-    l.invariant.2 ∙ members_over p (members_from l.count (values_of l.nodes.items)) l.invariant.0 l.reader c.next_key.new.self l.invariant.1 (grind arith)
+    l.invariant.2 ∙ after_members p (members_from l.count (values_of l.nodes.items)) l.invariant.0 l.reader c.next_key.new.self l.invariant.1 (grind arith)

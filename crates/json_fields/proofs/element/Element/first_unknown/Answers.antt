@@ -1,11 +1,11 @@
-use Rattle.std.proofs.Common.{◌≡◌, ℕ, List, Bool, true, false, None, option_map, option_and_then, map, not, refl, sym, ap, ◌∙◌, rules}
+use Rattle.std.proofs.Common.{◌≡◌, ℕ, List, Bool, true, false, option_map, option_and_then, map, not, refl, sym, ap, ◌∙◌, rules}
 use Rattle.std.specs.List.{find}
 use Rattle.office_base.specs.Texts.{is_among}
 use Rattle.serde_json.specs.Data.{Members}
 use Rattle.json_fields.specs.Fields.{names_of}
 use Rattle.json_fields.specs.Names.{earlier}
 use Rattle.json_fields.specs.Nodes.{values_of}
-use Rattle.json_fields.specs.Elements.{data_of, fields_left}
+use Rattle.json_fields.specs.Elements.{fields_left}
 use Rattle.json_fields.proofs.NameLemmas.{in_order-from, find-failing, find-passing, earlier-none, earlier-assoc}
 use Rattle.json_fields.proofs.element.Element.first_unknown.Goals as goal
 
