@@ -139,6 +139,21 @@ def nested_json(size: int, depth: int) -> bytes:
     return b'{"x":[' + b",".join([one] * ((size - 8) // (len(one) + 1))) + b"]}"
 
 
+def listed_json(size: int, item: bytes, head: bytes = b'{"x":[', tail: bytes = b"]}") -> bytes:
+    """A list of one item, again and again."""
+    return head + b",".join([item] * ((size - len(head) - len(tail) + 1) // (len(item) + 1))) + tail
+
+
+def tags_json(size: int) -> bytes:
+    """A put with as many tags as there can be."""
+    return up_to(size - 20, (b',"' + name + b'":""' for name in short_names())).replace(b",", b'{"size":1,"tags":{', 1) + b"}}"
+
+
+def rules_json(size: int, rule: bytes) -> bytes:
+    """A configuration of one rule, again and again."""
+    return listed_json(size, rule, b'{"Rules":[')
+
+
 def greatest_tags(character: str) -> dict[str, str]:
     """Ten tags of greatest length, of this character."""
     return {chr(97 + it) + character * 127: character * 256 for it in range(10)}
@@ -258,14 +273,31 @@ def tariffs_stay(office: Office, size: int, of_unit: bool = False) -> Found:
     return found._replace(weight=MIB) if of_unit else found
 
 
+def put_bodies(size: int) -> Iterator[tuple[bytes, bytes]]:
+    """Bodies of JSON for a put, and the front of the reply to each."""
+    other = b'{"error":"BadBody","field":"x",'
+    yield from ((nested_json(size, depth), other) for depth in (1, 3, 100))
+    yield from ((listed_json(size, item), other) for item in (b"0", b"[]", b"{}", b'""', rb'"\n"', b'{"":0}'))
+    yield tags_json(size), b'{"error":"BadTags",'
+
+
+def configurations(size: int) -> Iterator[tuple[bytes, bytes]]:
+    """Bodies of JSON for a lifecycle configuration, and the front of the reply to each."""
+    yield from ((nested_json(size, depth), UNKNOWN) for depth in (1, 3, 100))
+    yield from ((listed_json(size, item), UNKNOWN) for item in (b"0", b"[]", b'{"":0}'))
+    tag = listed_json(size - 64, b'{"Key":"","Value":""}', b'{"Rules":[{"Filter":{"And":{"Tags":[', b']}},"Status":"Enabled"}]}')
+    for body in (tag, rules_json(size, b'{"Status":"Enabled"}'), rules_json(size, b'{"Expiration":{"Days":1},"Status":"Enabled"}')):
+        yield body, b'{"error":"'
+
+
 def json_bodies(office: Office, size: int) -> Found:
-    """Sends bodies of nested JSON, of a configuration and of a put, and returns what the costliest takes."""
+    """Sends each of these bodies to a server of its own, and returns what the costliest takes."""
     found = []
-    for target, front in (("lifecycle", UNKNOWN), ("objects/k", b'{"error":"BadBody","field":"x",')):
-        for depth in (1, 3, 100):
+    for target, sent in (("lifecycle", configurations(size)), ("objects/k", put_bodies(size))):
+        for body, front in sent:
             with serving(office) as server:
-                found.append(spent(server, [message(f"PUT /buckets/logs/{target}", nested_json(size, depth))], 400, front))
-    return max(found, key=lambda it: it.bytes)
+                found.append(spent(server, [message(f"PUT /buckets/logs/{target}", body)], 400, front))
+    return max(found, key=lambda it: it.bytes / it.weight)
 
 
 def replies(office: Office, size: int, count: int = 1, character: str = "\1", unread: bool = False) -> Found:
@@ -400,8 +432,8 @@ TABLE = {row.name: row for row in (
     Row("tariff-plain", "PUT /tariff of plain keys", "bytes", (MIB,), (65_536,), partial(tariffs, body=plain_tariff), 36, BODIES),
     # SECURITY: "97 to 612 MB for small tables".
     Row("tariff-tables", "PUT /tariff of small tables", "bytes", (MIB,), (65_536,), partial(tariffs, body=tables_tariff), 597, BODIES),
-    # SECURITY: "77 to 181 MB a worker". Not kept: 182 MB.
-    Row("json", "PUT of nested JSON", "bytes", (MIB,), (65_536,), json_bodies, 175, BODIES),
+    # SECURITY: "at most 16 MB a worker".
+    Row("json", "PUT of JSON, of the costliest form", "bytes", (MIB,), (65_536,), json_bodies, 16, BODIES),
     # SECURITY: "a reply of 698 MB, 964 MB of memory", of which 144 MB are the versions.
     Row("reply", "GET of a key, each version with the greatest tags", "versions", (30_000,), (500,), replies, 1.205, REPLIES),
     # SECURITY: "3.4 GB for four at once".
