@@ -5,8 +5,8 @@ ghost use Rattle.bill_book.specs.Bills.{AreBills};
 use bill_keeper::{Bill, BillKeeper, KeeperFault, Posted, SqliteKeeper, table_in_memory};
 use moments::Month;
 use office_base::BucketName;
-use sqlite::{Alter, Connection, File, FileStore, MemStore, Row, params};
-use std::alloc::{AllocError, Global};
+use sqlite::{Alter, Connection, Row, params};
+use std::alloc::Global;
 use std::process::Abort;
 
 const JANUARY: u64 = 648;
@@ -74,33 +74,101 @@ fn read<K: BillKeeper>(keeper: &mut K, month: Month) -> BillsRead {
     }
 }
 
-// A keeper of bills in this file.
-fn at(rt: &HostRuntime, file: &str) -> Result<SqliteKeeper<FileStore<File>>, AllocError> {
-    let path = String::from_str(rt.alloc(), file)?;
-    Ok(SqliteKeeper::at(rt.clone()?, path))
+// A month of 2024.
+#[derive(Clone, Copy)]
+enum In {
+    January,
+    February,
 }
+
+fn month(of: In) -> Month {
+    match of {
+        In::January => Month::numbered(JANUARY),
+        In::February => Month::numbered(JANUARY + 1),
+    }
+}
+
+// The bills that are posted: none, one of aaa with this total, or the same and one of bbb.
+#[derive(Clone, Copy)]
+enum Owed {
+    Nothing,
+    One(u128),
+    Two(u128),
+}
+
+// None if the bills are not made.
+fn post_owed<K: BillKeeper>(
+    keeper: &mut K,
+    alloc: Global,
+    month: Month,
+    owed: Owed,
+) -> Option<Result<Posted, KeeperFault>> {
+    match owed {
+        Owed::Nothing => Some(post(keeper, month, &[])),
+        Owed::One(total) => {
+            let bills = one(alloc, total)?;
+            Some(post(keeper, month, &bills))
+        }
+        Owed::Two(total) => {
+            let bills = two(alloc, total)?;
+            Some(post(keeper, month, &bills))
+        }
+    }
+}
+
+// A call of a keeper, and what it returns.
+#[derive(Clone, Copy)]
+enum Turn {
+    Read(In, BillsRead),
+    Post(In, Owed, Result<Posted, KeeperFault>),
+}
+
+// A large type costs the proof at each call. So all turns are taken here, over any keeper.
+fn take_turns<K: BillKeeper>(
+    rt: &impl Abort,
+    alloc: Global,
+    keeper: &mut K,
+    turns: &[Turn],
+    given: &str,
+) {
+    for (index, turn) in turns.iter().enumerate() {
+        match turn {
+            Turn::Read(of, wanted) => {
+                assert_eq!(rt; read(keeper, month(*of)), *wanted, "{given}: {index}");
+            }
+            Turn::Post(of, owed, wanted) => {
+                let posted = post_owed(keeper, alloc, month(*of), *owed);
+                assert_eq!(rt; posted, Some(*wanted), "{given}: {index}");
+            }
+        }
+    }
+}
+
+// Opens a keeper of the bills in a file, and takes the turns.
+fn take_turns_in(rt: &impl Abort, host: &HostRuntime, file: &str, turns: &[Turn], given: &str) {
+    let path = String::from_str(host.alloc(), file).expect(rt, "memory");
+    let mut keeper = SqliteKeeper::at(host.clone().expect(rt, "memory"), path);
+    take_turns(rt, host.alloc(), &mut keeper, turns, given);
+}
+
+// The turns before the file is opened again, and those after it.
+const IN_A_FILE: [&[Turn]; 2] = [
+    &[
+        Turn::Read(In::January, Ok(None)),
+        Turn::Post(In::January, Owed::One(u128::MAX - 7), Ok(Posted::Now)),
+        Turn::Post(In::January, Owed::One(6), Ok(Posted::Before)),
+        Turn::Post(In::February, Owed::Nothing, Ok(Posted::Now)),
+    ],
+    &[
+        Turn::Read(In::January, Ok(Some((1, u128::MAX - 7)))),
+        Turn::Read(In::February, Ok(Some((0, 0)))),
+    ],
+];
 
 #[test]
 fn a_file_keeps_the_bills(rt: HostRuntime) {
-    let january = Month::numbered(JANUARY);
-    let february = Month::numbered(JANUARY + 1);
-    let mut keeper = at(&rt, "bills.db").expect(&rt, "memory");
-    assert_eq!(rt; read(&mut keeper, january), Ok(None));
-    let owed = one(rt.alloc(), u128::MAX - 7).expect(&rt, "a bill");
-    assert_eq!(rt; post(&mut keeper, january, &owed), Ok(Posted::Now));
-    let other = one(rt.alloc(), 6).expect(&rt, "a bill");
-    assert_eq!(rt; post(&mut keeper, january, &other), Ok(Posted::Before));
-    assert_eq!(rt; post(&mut keeper, february, &[]), Ok(Posted::Now));
-    drop(keeper);
-    let mut keeper = at(&rt, "bills.db").expect(&rt, "memory");
-    assert_eq!(rt; read(&mut keeper, january), Ok(Some((1, u128::MAX - 7))));
-    assert_eq!(rt; read(&mut keeper, february), Ok(Some((0, 0))));
-}
-
-fn in_memory(alloc: Global) -> Option<SqliteKeeper<MemStore>> {
-    match table_in_memory(alloc) {
-        Ok(connection) => Some(SqliteKeeper::over(alloc, connection)),
-        Err(_) => None,
+    for turns in &IN_A_FILE {
+        take_turns_in(&rt, &rt, "bills.db", turns, "bills.db");
     }
 }
 
@@ -130,7 +198,10 @@ fn columns(row: &Row) -> Option<(String, String, u32)> {
     }
 }
 
-fn have(rt: &impl Abort, rows: &[Row], wanted: &[(&str, &str, u32)]) {
+// A row: its bucket, total and number of lines.
+type BillRow = (&'static str, &'static str, u32);
+
+fn have(rt: &impl Abort, rows: &[Row], wanted: &[BillRow]) {
     assert_eq!(rt; rows.len(), wanted.len());
     for (row, (bucket, total, lines)) in rows.iter().zip(wanted) {
         let (own, digits, count) = columns(row).expect(rt, "two texts and a number");
@@ -141,28 +212,39 @@ fn have(rt: &impl Abort, rows: &[Row], wanted: &[(&str, &str, u32)]) {
     }
 }
 
+const IN_MEMORY: [Turn; 5] = [
+    Turn::Read(In::January, Ok(None)),
+    Turn::Post(In::January, Owed::Two(5), Ok(Posted::Now)),
+    Turn::Post(In::January, Owed::Two(6), Ok(Posted::Before)),
+    Turn::Post(In::February, Owed::Nothing, Ok(Posted::Now)),
+    Turn::Read(In::February, Ok(Some((0, 0)))),
+];
+
+// A month, and its rows after those turns.
+const ROWS_OF: [(&str, &[BillRow]); 2] = [
+    (
+        "2024-01",
+        &[("", "12", 2), ("aaa", "5", 1), ("bbb", "7", 2)],
+    ),
+    ("2024-02", &[("", "0", 0)]),
+];
+
+// Takes those turns, and compares the rows.
+fn leave_rows<S: Alter + Drop>(rt: &impl Abort, alloc: Global, mut keeper: SqliteKeeper<S>) {
+    take_turns(rt, alloc, &mut keeper, &IN_MEMORY, "in memory");
+    let mut connection = connection_of(keeper).expect(rt, "a connection");
+    for (month, wanted) in &ROWS_OF {
+        let rows = rows_of(&mut connection, month).expect(rt, "rows");
+        have(rt, &rows, wanted);
+    }
+}
+
 #[test]
 fn a_table_in_memory_has_the_rows(rt: HostRuntime) {
-    let alloc = rt.alloc();
-    let january = Month::numbered(JANUARY);
-    let february = Month::numbered(JANUARY + 1);
-    let mut keeper = in_memory(alloc).expect(&rt, "a table");
-    assert_eq!(rt; read(&mut keeper, january), Ok(None));
-    let owed = two(alloc, 5).expect(&rt, "bills");
-    assert_eq!(rt; post(&mut keeper, january, &owed), Ok(Posted::Now));
-    let others = two(alloc, 6).expect(&rt, "bills");
-    assert_eq!(rt; post(&mut keeper, january, &others), Ok(Posted::Before));
-    assert_eq!(rt; post(&mut keeper, february, &[]), Ok(Posted::Now));
-    assert_eq!(rt; read(&mut keeper, february), Ok(Some((0, 0))));
-    let mut connection = connection_of(keeper).expect(&rt, "a connection");
-    let rows = rows_of(&mut connection, "2024-01").expect(&rt, "rows");
-    have(
-        &rt,
-        &rows,
-        &[("", "12", 2), ("aaa", "5", 1), ("bbb", "7", 2)],
-    );
-    let rows = rows_of(&mut connection, "2024-02").expect(&rt, "rows");
-    have(&rt, &rows, &[("", "0", 0)]);
+    match table_in_memory(rt.alloc()) {
+        Ok(table) => leave_rows(&rt, rt.alloc(), SqliteKeeper::over(rt.alloc(), table)),
+        Err(_) => panic!(rt; "no memory"),
+    }
 }
 
 // The table of docs/FORMATS.md, with its example of a month and no other row.
@@ -270,16 +352,9 @@ const CHANGES: [(&str, Result<Posted, KeeperFault>, u32, BillsRead); 17] = [
     ),
 ];
 
-fn run<S: Alter>(connection: &mut Connection<S>, batch: &str, change: &str) -> bool {
-    connection.execute_batch(batch).is_ok() && connection.execute(change, &[]).is_ok()
-}
-
-// Writes the example to the file of the rows, and changes it.
-fn write_changed(rt: &HostRuntime, change: &str) -> bool {
-    match Connection::open(rt, ROWS) {
-        Ok(mut connection) => run(&mut connection, EXAMPLE, change),
-        Err(_) => false,
-    }
+// Writes the example, and changes it.
+fn run<S: Alter>(connection: &mut Connection<S>, change: &str) -> bool {
+    connection.execute_batch(EXAMPLE).is_ok() && connection.execute(change, &[]).is_ok()
 }
 
 fn count<S: Alter>(connection: &mut Connection<S>) -> Option<u32> {
@@ -289,40 +364,32 @@ fn count<S: Alter>(connection: &mut Connection<S>) -> Option<u32> {
     }
 }
 
-// How many rows the table in the file of the rows has.
-fn size(rt: &HostRuntime) -> Option<u32> {
-    match Connection::open(rt, ROWS) {
-        Ok(mut connection) => count(&mut connection),
+fn counted<S: Alter>(connection: &mut Connection<S>, change: Option<&str>) -> Option<u32> {
+    let is_written = match change {
+        Some(change) => run(connection, change),
+        None => true,
+    };
+    if is_written { count(connection) } else { None }
+}
+
+// How many rows the table in the file of the rows has; before that, writes the changed example if a change is given.
+fn rows_in_file(host: &HostRuntime, change: Option<&str>) -> Option<u32> {
+    match Connection::open(host, ROWS) {
+        Ok(mut connection) => counted(&mut connection, change),
         Err(_) => None,
     }
 }
 
-// The answer to posting two bills in January, and what is read of that month.
-fn asked<K: BillKeeper>(
-    keeper: &mut K,
-    alloc: Global,
-) -> Option<(Result<Posted, KeeperFault>, BillsRead)> {
-    let january = Month::numbered(JANUARY);
-    let owed = two(alloc, 5)?;
-    let posted = post(keeper, january, &owed);
-    Some((posted, read(keeper, january)))
-}
-
-// What posting two bills returns after a change to the example, how many rows there are then, and what is read.
-fn found(rt: &HostRuntime, change: &str) -> Option<(Result<Posted, KeeperFault>, u32, BillsRead)> {
-    if !write_changed(rt, change) {
-        return None;
-    }
-    let mut keeper = at(rt, ROWS).ok()?;
-    let (posted, read) = asked(&mut keeper, rt.alloc())?;
-    drop(keeper);
-    Some((posted, size(rt)?, read))
-}
-
+// After a change to the example, the answer to posting two bills, what is read of the month, and the number of rows.
 #[test]
 fn rows_that_are_not_well_made_are_a_fault(rt: HostRuntime) {
     for (change, posted, rows, read) in &CHANGES {
-        let wanted = Some((*posted, *rows, *read));
-        assert_eq!(rt; found(&rt, *change), wanted, "{change}");
+        let turns = [
+            Turn::Post(In::January, Owed::Two(5), *posted),
+            Turn::Read(In::January, *read),
+        ];
+        assert!(rt; rows_in_file(&rt, Some(change)).is_some(), "{change}");
+        take_turns_in(&rt, &rt, ROWS, &turns, change);
+        assert_eq!(rt; rows_in_file(&rt, None), Some(*rows), "{change}");
     }
 }
