@@ -3,7 +3,7 @@ ghost use Rattle.accrual.specs.Books.{Book};
 ghost use Rattle.accrual.specs.Sums.{HasAllEnded, IsSmallMonth};
 ghost use Rattle.accrual.specs.Totals.{AreTotalsOf, IsBilled};
 
-use crate::given::{DAY, NEW_YEAR, day, moment, month};
+use crate::given::{DAY, NEW_YEAR, day, equal, moment, month};
 use accrual::{Meters, MonthSums};
 use class_rules::{Class, Lines, billed};
 use moments::{Moment, Month, month_of};
@@ -85,7 +85,7 @@ fn read_all(rt: &impl Abort, alloc: Global, readings: &[Reading]) {
         let meters = after(rt, alloc, first, second);
         let t = day(rt, days);
         let read = meters.reading(month(rt, year, number), class, t);
-        assert_eq!(rt; read, wanted, "{index}");
+        equal(rt, &index, &read, &wanted);
     }
 }
 
@@ -175,12 +175,13 @@ fn early_quantities(rt: HostRuntime) {
     let january = month(&rt, 2024, 1);
     for (bytes, days, wanted) in &EARLY {
         let meters = left_early(&rt, rt.alloc(), *bytes, *days);
-        assert_eq!(rt;
-            meters.early_of(january, Class::StandardIa),
-            *wanted,
-            "{days}"
+        equal(
+            &rt,
+            days,
+            &meters.early_of(january, Class::StandardIa),
+            wanted,
         );
-        assert_eq!(rt; meters.early_of(january, Class::Standard), 0, "{days}");
+        equal(&rt, days, &meters.early_of(january, Class::Standard), &0);
     }
 }
 
@@ -201,7 +202,7 @@ fn moves(rt: HostRuntime) {
     meters.moved(Class::StandardIa, at);
     for (year, number, class, wanted) in &MOVES {
         let moves = meters.moves_of(month(&rt, *year, *number), *class);
-        assert_eq!(rt; moves, *wanted, "{year} {number} {class:?}");
+        equal(&rt, &(*year, *number, *class), &moves, wanted);
     }
 }
 
@@ -355,6 +356,6 @@ fn meters_that_go_on(rt: HostRuntime) {
     let t = day(&rt, 101);
     for (number, class, used, owed, moves) in &GONE_ON {
         let told = told(&again, month(&rt, 2024, *number), *class, t);
-        assert_eq!(rt; told, (*used, *owed, *moves), "{number} {class:?}");
+        equal(&rt, &(*number, *class), &told, &(*used, *owed, *moves));
     }
 }

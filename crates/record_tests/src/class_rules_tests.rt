@@ -1,3 +1,4 @@
+use crate::given::equal;
 use class_rules::{Class, Lines, billed, least_duration, marker_lines, may_go, part_lines, rank};
 
 const CLASSES: [(Class, &str, u8, u64); 6] = [
@@ -12,12 +13,10 @@ const CLASSES: [(Class, &str, u8, u64); 6] = [
 #[test]
 fn classes_by_name(rt: HostRuntime) {
     for (class, name, place, least_ms) in &CLASSES {
-        assert_eq!(rt; (class.name(), Class::named(name)), (*name, Some(*class)));
-        assert_eq!(rt;
-            (rank(*class), least_duration(*class)),
-            (*place, *least_ms),
-            "{name}"
-        );
+        assert!(rt; class.name() == *name, "{name}");
+        equal(&rt, name, &Class::named(name), &Some(*class));
+        equal(&rt, name, &rank(*class), place);
+        equal(&rt, name, &least_duration(*class), least_ms);
     }
 }
 
@@ -32,7 +31,7 @@ const NO_CLASSES: [&str; 5] = [
 #[test]
 fn names_of_no_class(rt: HostRuntime) {
     for text in &NO_CLASSES {
-        assert_eq!(rt; Class::named(text), None, "{text}");
+        equal(&rt, text, &Class::named(text), &None);
     }
 }
 
@@ -46,7 +45,7 @@ const MOVES: [(Class, Class, bool); 3] = [
 #[test]
 fn moves_between_classes(rt: HostRuntime) {
     for (from, to, may) in &MOVES {
-        assert_eq!(rt; may_go(*from, *to), *may, "{from:?} {to:?}");
+        equal(&rt, &(*from, *to), &may_go(*from, *to), may);
     }
 }
 
@@ -79,15 +78,14 @@ fn lines_by_class(rt: HostRuntime) {
     for (class, size, bytes, standard) in &BILLED {
         assert!(rt; *size <= 5_497_558_138_880);
         let wanted = lines(*class, *bytes, *standard);
-        assert_eq!(rt; billed(*class, *size), wanted, "{class:?} {size}");
+        equal(&rt, size, &billed(*class, *size), &wanted);
     }
 }
 
 #[test]
 fn lines_of_markers_and_parts(rt: HostRuntime) {
-    assert_eq!(rt; marker_lines(7), lines(Class::Standard, 7, 0));
-    assert_eq!(rt;
-        part_lines(Class::Glacier, 1_000),
-        lines(Class::Standard, 1_000, 0)
-    );
+    let of_marker = lines(Class::Standard, 7, 0);
+    equal(&rt, &"a marker", &marker_lines(7), &of_marker);
+    let of_part = lines(Class::Standard, 1_000, 0);
+    equal(&rt, &"a part", &part_lines(Class::Glacier, 1_000), &of_part);
 }

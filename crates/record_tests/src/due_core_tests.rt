@@ -2,7 +2,7 @@ ghost use Rattle.std.specs.Prelude.{◌≡◌, true};
 ghost use Rattle.std.specs.List.{list_all};
 ghost use Rattle.rules_core.specs.Configurations.{has_midnights};
 
-use crate::given::{id, key, moment, size, tags};
+use crate::given::{equal, id, key, moment, size, tags};
 use Asked::{Clear, Expire, Move, Purge};
 use class_rules::Class;
 use due_core::{ActionKind, Bucket, Target, candidates, chosen};
@@ -271,12 +271,8 @@ fn shown(rt: &impl Abort, alloc: Global, row: &Row) -> Option<(ActionKind, Targe
 #[test]
 fn what_is_chosen(rt: HostRuntime) {
     for (index, row) in ROWS.iter().enumerate() {
-        assert_eq!(rt;
-            shown(&rt, rt.alloc(), row),
-            wanted(row),
-            "{index} at {}",
-            row.t
-        );
+        let shown = shown(&rt, rt.alloc(), row);
+        equal(&rt, &(index, row.t), &shown, &wanted(row));
     }
 }
 

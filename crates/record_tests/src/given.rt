@@ -3,7 +3,19 @@
 use moments::{Moment, Month};
 use office_base::{Key, Nth, Size, Tags, VersionId};
 use std::alloc::Global;
+use std::fmt::Debug;
 use std::process::Abort;
+
+// Compares what a row gives with what it expects. Each `assert_eq!` of a test's own costs its proof some seconds, a call of
+// this a fifth of that.
+pub(crate) fn equal<T: PartialEq + Debug>(
+    rt: &impl Abort,
+    row: &impl Debug,
+    found: &T,
+    wanted: &T,
+) {
+    assert_eq!(rt; *found, *wanted, "{row:?}");
+}
 
 pub(crate) fn moment(rt: &impl Abort, ms: u64) -> Moment {
     Moment::of(ms).expect(rt, "a moment")

@@ -1,4 +1,4 @@
-use crate::given::moment;
+use crate::given::{equal, moment};
 use moments::{
     END, Moment, MomentRefusal, Month, due_after, month_of, month_window, print_moment, read_date,
     read_month,
@@ -30,9 +30,9 @@ fn moments_end_at_2100(rt: HostRuntime) {
         } else {
             Err(MomentRefusal::PastEnd)
         };
-        assert_eq!(rt; ms_of(*ms), wanted, "{ms}");
+        equal(&rt, ms, &ms_of(*ms), &wanted);
     }
-    assert_eq!(rt; Moment::last().ms(), 4_102_444_799_999);
+    equal(&rt, &"the last", &Moment::last().ms(), &4_102_444_799_999);
 }
 
 // A moment, a number of days, and the midnight that is due then, by the rules' examples.
@@ -55,7 +55,7 @@ fn due_ms(from: Moment, days: u32) -> Option<u64> {
 #[test]
 fn midnights_that_are_due(rt: HostRuntime) {
     for (ms, days, wanted) in &DUE {
-        assert_eq!(rt; due_ms(moment(&rt, *ms), *days), *wanted, "{ms} {days}");
+        equal(&rt, &(*ms, *days), &due_ms(moment(&rt, *ms), *days), wanted);
     }
 }
 
@@ -73,8 +73,8 @@ const TEXTS: [(u64, u16, u8, &str); 6] = [
 fn months_of_moments(rt: HostRuntime) {
     for (ms, year, month, text) in &TEXTS {
         let found = month_of(moment(&rt, *ms));
-        assert_eq!(rt; (found.year(), found.month()), (*year, *month), "{text}");
-        assert_eq!(rt; Month::of(*year, *month), Some(found), "{text}");
+        equal(&rt, text, &(found.year(), found.month()), &(*year, *month));
+        equal(&rt, text, &Month::of(*year, *month), &Some(found));
     }
 }
 
@@ -94,14 +94,11 @@ fn texts_of_moments(rt: HostRuntime) {
 #[test]
 fn ends_of_months(rt: HostRuntime) {
     let january = Month::of(2024, 1).expect(&rt, "January 2024");
-    assert_eq!(rt;
-        month_window(january),
-        (1_704_067_200_000, 1_706_745_600_000)
-    );
-    assert_eq!(rt;
-        (Month::of(1969, 12), Month::of(2100, 1), Month::of(2024, 0)),
-        (None, None, None)
-    );
+    let window = (1_704_067_200_000, 1_706_745_600_000);
+    equal(&rt, &"January 2024", &month_window(january), &window);
+    equal(&rt, &"1969-12", &Month::of(1969, 12), &None);
+    equal(&rt, &"2100-01", &Month::of(2100, 1), &None);
+    equal(&rt, &"2024-00", &Month::of(2024, 0), &None);
 }
 
 // Texts, and the midnights that they are read as.
@@ -153,7 +150,7 @@ fn date_of(text: &str) -> Result<u64, MomentRefusal> {
 #[test]
 fn dates_read(rt: HostRuntime) {
     for (text, wanted) in &DATES {
-        assert_eq!(rt; date_of(text), *wanted, "{text}");
+        equal(&rt, text, &date_of(text), wanted);
     }
 }
 
@@ -170,8 +167,13 @@ const NO_MONTHS: [&str; 8] = [
 
 #[test]
 fn months_read(rt: HostRuntime) {
-    assert_eq!(rt; read_month("2099-12").ok(), Month::of(2099, 12));
+    equal(
+        &rt,
+        &"2099-12",
+        &read_month("2099-12").ok(),
+        &Month::of(2099, 12),
+    );
     for text in &NO_MONTHS {
-        assert_eq!(rt; read_month(text), Err(MomentRefusal::NotAMonth), "{text}");
+        equal(&rt, text, &read_month(text), &Err(MomentRefusal::NotAMonth));
     }
 }

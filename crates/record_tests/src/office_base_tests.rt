@@ -1,4 +1,4 @@
-use crate::given::{Pair, id, key, pairs, tags, text};
+use crate::given::{Pair, equal, id, key, pairs, tags, text};
 use office_base::{BucketName, Items, Key, NameRefusal, Nth, Size, TagList, Tags, Text, VersionId};
 use std::alloc::Global;
 use std::cmp::Ordering;
@@ -47,10 +47,15 @@ fn name_refusal(alloc: Global, text: &str) -> Option<NameRefusal> {
 
 #[test]
 fn names_out_of_range(rt: HostRuntime) {
-    assert_eq!(rt; (SIXTY_THREE.len(), SIXTY_FOUR.len()), (63, 64));
+    equal(
+        &rt,
+        &"lengths",
+        &(SIXTY_THREE.len(), SIXTY_FOUR.len()),
+        &(63, 64),
+    );
     for text in &NO_NAMES {
         let refusal = name_refusal(rt.alloc(), text);
-        assert_eq!(rt; refusal, Some(NameRefusal::BadBucketName), "{text}");
+        equal(&rt, text, &refusal, &Some(NameRefusal::BadBucketName));
     }
 }
 
@@ -65,11 +70,8 @@ fn order(rt: &impl Abort, alloc: Global, left: &str, right: &str) -> Ordering {
 fn names_in_the_order_of_their_bytes(rt: HostRuntime) {
     for (i, left) in ORDERED.iter().enumerate() {
         for (j, right) in ORDERED.iter().enumerate() {
-            assert_eq!(rt;
-                order(&rt, rt.alloc(), left, right),
-                i.cmp(&j),
-                "{left} and {right}"
-            );
+            let order = order(&rt, rt.alloc(), left, right);
+            equal(&rt, &(i, j), &order, &i.cmp(&j));
         }
     }
 }
@@ -99,7 +101,7 @@ fn key_refusal(alloc: Global, bytes: &[u8]) -> Option<NameRefusal> {
 fn keys_out_of_range(rt: HostRuntime) {
     for bytes in &NO_KEYS {
         let refusal = key_refusal(rt.alloc(), bytes);
-        assert_eq!(rt; refusal, Some(NameRefusal::BadKey), "{} bytes", bytes.len());
+        equal(&rt, &bytes.len(), &refusal, &Some(NameRefusal::BadKey));
     }
 }
 
@@ -112,8 +114,14 @@ fn size(bytes: u64) -> Result<u64, NameRefusal> {
 
 #[test]
 fn sizes(rt: HostRuntime) {
-    assert_eq!(rt; size(5_497_558_138_880), Ok(5_497_558_138_880));
-    assert_eq!(rt; size(5_497_558_138_881), Err(NameRefusal::BadSize));
+    let largest = 5_497_558_138_880;
+    equal(&rt, &"the largest", &size(largest), &Ok(largest));
+    equal(
+        &rt,
+        &"one more",
+        &size(largest + 1),
+        &Err(NameRefusal::BadSize),
+    );
 }
 
 // Texts, and the numbers of the versions that they name; 0 is the null version.
@@ -133,13 +141,13 @@ const IDS: [(&str, Option<u64>); 11] = [
 
 #[test]
 fn version_ids(rt: HostRuntime) {
-    assert_eq!(rt; Nth::of(0), None);
+    equal(&rt, &0, &Nth::of(0), &None);
     for (text, number) in &IDS {
         let wanted = match number {
             Some(number) => Some(id(*number)),
             None => None,
         };
-        assert_eq!(rt; VersionId::read(text), wanted, "{text}");
+        equal(&rt, text, &VersionId::read(text), &wanted);
     }
 }
 
@@ -207,7 +215,7 @@ fn tag_count(alloc: Global, pairs: Vec<(String, String)>) -> Result<usize, NameR
 fn tags_by_their_pairs(rt: HostRuntime) {
     for (index, (given, wanted)) in TAGS.iter().enumerate() {
         let count = tag_count(rt.alloc(), pairs(&rt, rt.alloc(), given));
-        assert_eq!(rt; count, *wanted, "{index}");
+        equal(&rt, &index, &count, wanted);
     }
 }
 
@@ -240,7 +248,7 @@ fn lengths_of_tags(rt: HostRuntime) {
         );
         let mut pairs = Vec::new(alloc);
         pairs.push(pair).expect(&rt, "memory");
-        assert_eq!(rt; tag_count(alloc, pairs), *wanted, "{long} and {wide}");
+        equal(&rt, &(*long, *wide), &tag_count(alloc, pairs), wanted);
     }
 }
 

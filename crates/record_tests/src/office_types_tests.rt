@@ -1,4 +1,4 @@
-use crate::given::{id, key, moment, month, size, tags};
+use crate::given::{equal, id, key, moment, month, size, tags};
 use class_rules::Class;
 use office_base::BucketName;
 use office_types::{Command, Kept, Reply, Token, marker_told, number_told};
@@ -60,7 +60,7 @@ fn tokens_are_compared_by_their_bytes(rt: HostRuntime) {
     let alloc = rt.alloc();
     for (one, other, are_same) in &PAIRS {
         let (one, other) = (token(&rt, alloc, one), token(&rt, alloc, other));
-        assert_eq!(rt; one == other, *are_same, "{:?}", other.bytes());
+        equal(&rt, &other.bytes(), &(one == other), are_same);
         let copy = one.copy().expect(&rt, "memory");
         assert!(rt; copy == one);
     }
@@ -181,7 +181,7 @@ fn kinds_of_commands(rt: HostRuntime) {
     for (wish, kind, takes_token) in &KINDS {
         let command = wished(&rt, rt.alloc(), *wish);
         let told = (command.kind(), command.takes_token());
-        assert_eq!(rt; told, (*kind, *takes_token), "{wish:?}");
+        equal(&rt, wish, &told, &(*kind, *takes_token));
     }
 }
 
@@ -192,11 +192,11 @@ fn commands_that_are_the_same(rt: HostRuntime) {
     for (place, (wish, _, takes_token)) in KINDS.iter().enumerate() {
         let one = wished(&rt, alloc, *wish);
         let copy = one.copy().expect(&rt, "memory");
-        assert_eq!(rt; one.is_same(&copy), *takes_token, "{wish:?}");
+        equal(&rt, wish, &one.is_same(&copy), takes_token);
         for (at, (asked, _, _)) in KINDS.iter().enumerate() {
             let other = wished(&rt, alloc, *asked);
             let are_same = at == place && *takes_token;
-            assert_eq!(rt; one.is_same(&other), are_same, "{place} and {at}");
+            equal(&rt, &(place, at), &one.is_same(&other), &are_same);
         }
     }
 }
@@ -293,8 +293,8 @@ fn a_kept_reply_is_given_again(rt: HostRuntime) {
             command: wished(&rt, alloc, *wish),
         };
         let reply = kept.reply().expect(&rt, "memory");
-        assert_eq!(rt; told_by(&reply), *wanted, "{index}");
+        equal(&rt, &index, &told_by(&reply), wanted);
         let again = (marker_told(&reply), number_told(&reply));
-        assert_eq!(rt; again, (*marker, *told), "{index}");
+        equal(&rt, &index, &again, &(*marker, *told));
     }
 }

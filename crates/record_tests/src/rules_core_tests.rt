@@ -2,7 +2,7 @@ ghost use Rattle.std.specs.Prelude.{◌≡◌, true};
 ghost use Rattle.std.specs.List.{list_all};
 ghost use Rattle.rules_core.specs.Configurations.{has_midnights};
 
-use crate::given::{Pair, key, pairs, size, tags, text};
+use crate::given::{Pair, equal, key, pairs, size, tags, text};
 use class_rules::Class;
 use office_base::{Items, TagList, Text};
 use rules_core::{
@@ -80,7 +80,12 @@ fn filters_and_what_they_match(rt: HostRuntime) {
             matches(&filter, &key, &tags, size(&rt, 100)),
             matches_marker(&filter, &key),
         );
-        assert_eq!(rt; told, (*matched, *matched && wanted.is_empty()), "{index}");
+        equal(
+            &rt,
+            &index,
+            &told,
+            &(*matched, *matched && wanted.is_empty()),
+        );
     }
 }
 
@@ -116,7 +121,12 @@ fn admitted(
 fn bounds_of_filters(rt: HostRuntime) {
     for (greater, less, matched) in &BOUNDS {
         let told = admitted(&rt, rt.alloc(), *greater, *less);
-        assert_eq!(rt; told, (*matched, false, true, true), "{greater:?} {less:?}");
+        equal(
+            &rt,
+            &(*greater, *less),
+            &told,
+            &(*matched, false, true, true),
+        );
     }
 }
 
@@ -134,7 +144,7 @@ fn sizes_that_are_moved(rt: HostRuntime) {
     let open = filter(&rt, rt.alloc(), "", &[]);
     for (mode, class, bytes, moved) in &MOVES {
         let admits = size_admits(*mode, &open, *class, size(&rt, *bytes));
-        assert_eq!(rt; admits, *moved, "{class:?} {bytes}");
+        equal(&rt, &(*class, *bytes), &admits, moved);
     }
 }
 

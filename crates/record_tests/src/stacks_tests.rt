@@ -2,7 +2,7 @@ ghost use Rattle.std.specs.Prelude.{◌≡◌, true};
 ghost use Rattle.std.specs.List.{list_any};
 ghost use Rattle.stacks.specs.Stacks.{IsFreeNumber, has_id};
 
-use crate::given::{DAY, NEW_YEAR, day, id, size, tags};
+use crate::given::{DAY, NEW_YEAR, day, equal, id, size, tags};
 use Change::{Mark, Put, Remove};
 use Versioning::{Enabled, Suspended, Unversioned};
 use class_rules::Class;
@@ -280,7 +280,7 @@ fn stacks_after_steps(rt: HostRuntime) {
     for (index, case) in CASES.iter().enumerate() {
         let mut stack = Stack::new(rt.alloc(), day(&rt, 0));
         let gone = done_daily(&rt, rt.alloc(), &mut stack, case.steps);
-        assert_eq!(rt; gone, case.gone, "{index}");
+        equal(&rt, &index, &gone, &case.gone);
         assert!(rt; are(stack.versions(), case.rows), "{index}");
     }
 }
@@ -326,7 +326,7 @@ fn refused_changes(rt: HostRuntime) {
     let mut stack = of_marker(&rt, rt.alloc());
     for (index, (change, wanted)) in REFUSED.iter().enumerate() {
         let refusal = refusal(&rt, rt.alloc(), &mut stack, *change, day(&rt, 2));
-        assert_eq!(rt; refusal, Some(*wanted), "{index}");
+        equal(&rt, &index, &refusal, &Some(*wanted));
     }
     assert_eq!(rt; stack.changed(), day(&rt, 1));
 }
@@ -412,7 +412,12 @@ fn many_removals(rt: HostRuntime) {
     let mut stack = of_days(&rt, rt.alloc(), 300);
     for oldest in 1..300 {
         let gone = step(&rt, rt.alloc(), &mut stack, Remove(oldest), 400);
-        assert_eq!(rt; gone, Some((oldest, false, oldest, oldest + 1)));
+        equal(
+            &rt,
+            &oldest,
+            &gone,
+            &Some((oldest, false, oldest, oldest + 1)),
+        );
     }
     assert_eq!(rt; stack.versions().len(), 1);
 }
@@ -448,7 +453,7 @@ const NUMBERS: [([u64; 3], bool); 5] = [
 fn stacks_of_markers(rt: HostRuntime) {
     for (numbers, is_some) in &NUMBERS {
         let stack = Stack::of(day(&rt, 1), markers(&rt, rt.alloc(), numbers));
-        assert_eq!(rt; stack.is_some(), *is_some, "{numbers:?}");
+        equal(&rt, numbers, &stack.is_some(), is_some);
     }
 }
 
@@ -462,7 +467,12 @@ fn stacks_of_a_marker(rt: HostRuntime) {
         let marker = marker(1, day(&rt, *created), day(&rt, *ceased));
         let versions = vec![in rt.alloc(); marker].expect(&rt, "memory");
         let stack = Stack::of(day(&rt, *changed), versions);
-        assert_eq!(rt; stack.is_some(), *is_some, "{created} {ceased} {changed}");
+        equal(
+            &rt,
+            &(*created, *ceased, *changed),
+            &stack.is_some(),
+            is_some,
+        );
     }
 }
 

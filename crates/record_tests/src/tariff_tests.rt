@@ -1,4 +1,4 @@
-use crate::given::{month, text};
+use crate::given::{equal, month, text};
 use class_rules::Class;
 use std::alloc::Global;
 use std::process::Abort;
@@ -20,10 +20,10 @@ fn prices_by_class(rt: HostRuntime) {
     let tariff = Tariff::of(STORAGE, TRANSITION).expect(&rt, "a tariff");
     for (class, storage, transition) in &OF_CLASSES {
         let tiers = tariff.storage_tiers(*class).list();
-        assert_eq!(rt; tiers.len(), 1, "{class:?}");
-        assert_eq!(rt; tiers[0].upto, None, "{class:?}");
+        equal(&rt, class, &tiers.len(), &1);
+        equal(&rt, class, &tiers[0].upto, &None);
         let prices = (tiers[0].price, tariff.move_price(*class));
-        assert_eq!(rt; prices, (*storage, *transition), "{class:?}");
+        equal(&rt, class, &prices, &(*storage, *transition));
     }
 }
 
@@ -38,7 +38,7 @@ const LARGEST: [([u32; 6], [u32; 5], bool); 3] = [
 fn the_largest_prices(rt: HostRuntime) {
     for (index, (storage, transition, is_some)) in LARGEST.iter().enumerate() {
         let tariff = Tariff::of(*storage, *transition);
-        assert_eq!(rt; tariff.is_some(), *is_some, "{index}");
+        equal(&rt, &index, &tariff.is_some(), is_some);
     }
 }
 
@@ -61,7 +61,12 @@ fn charges_of_a_month(rt: HostRuntime) {
     let january = month(&rt, 2024, 1);
     for (used, price, wanted) in &CHARGES {
         let tiers = Tiers::one(*price).expect(&rt, "a price");
-        assert_eq!(rt; charge(*used, &tiers, january), *wanted, "{used} {price}");
+        equal(
+            &rt,
+            &(*used, *price),
+            &charge(*used, &tiers, january),
+            wanted,
+        );
     }
 }
 
@@ -99,7 +104,7 @@ fn charges_in_tiers(rt: HostRuntime) {
     let january = month(&rt, 2024, 1);
     let tiers = Tiers::from_slice(&IN_TIERS).expect(&rt, "tiers");
     for (used, wanted) in &TIERED {
-        assert_eq!(rt; charge(*used, &tiers, january), *wanted, "{used}");
+        equal(&rt, used, &charge(*used, &tiers, january), wanted);
     }
 }
 
@@ -126,7 +131,7 @@ fn tiers_of_a_class(rt: HostRuntime) {
             };
             tiers.push(tier).expect(&rt, "memory");
         }
-        assert_eq!(rt; Tiers::of(tiers).is_some(), *is_some, "{index}");
+        equal(&rt, &index, &Tiers::of(tiers).is_some(), is_some);
     }
 }
 
@@ -141,7 +146,7 @@ const MOVES: [(u64, u32, u128); 4] = [
 #[test]
 fn charges_of_moves(rt: HostRuntime) {
     for (moves, price, wanted) in &MOVES {
-        assert_eq!(rt; move_charge(*moves, *price), *wanted, "{moves} {price}");
+        equal(&rt, &(*moves, *price), &move_charge(*moves, *price), wanted);
     }
 }
 

@@ -1,4 +1,4 @@
-use crate::given::{day, key, tags};
+use crate::given::{day, equal, key, tags};
 use class_rules::Class;
 use std::alloc::Global;
 use std::collections::BTreeMap;
@@ -59,7 +59,7 @@ fn whole(upload: &Upload) -> Result<u64, UploadRefusal> {
 fn put_all(rt: &impl Abort, upload: &mut Upload, cases: &[Case]) {
     for (number, size, today, wanted, sum) in cases {
         let told = (put(rt, upload, *number, *size, *today), whole(upload));
-        assert_eq!(rt; told, (*wanted, Ok(*sum)), "{today}");
+        equal(rt, today, &told, &(*wanted, Ok(*sum)));
     }
 }
 
@@ -93,11 +93,8 @@ fn what_an_upload_tells(rt: HostRuntime) {
 fn largest(rt: &impl Abort, alloc: Global) -> Upload {
     let mut upload = start(rt, alloc);
     for number in 1..1_025 {
-        assert_eq!(rt;
-            put(rt, &mut upload, number, 5 * GIB, 1),
-            Ok(None),
-            "{number}"
-        );
+        let before = put(rt, &mut upload, number, 5 * GIB, 1);
+        equal(rt, &number, &before, &Ok(None));
     }
     upload
 }
@@ -158,6 +155,6 @@ fn uploads_of_parts(rt: HostRuntime) {
             day(&rt, *changed),
             one_part(&rt, alloc, *number, *size, *put),
         );
-        assert_eq!(rt; upload.is_some(), *is_some, "{index}");
+        equal(&rt, &index, &upload.is_some(), is_some);
     }
 }
