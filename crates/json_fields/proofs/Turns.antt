@@ -2,10 +2,17 @@
 use Rattle.std.proofs.Common.{◌≡◌, ℕ, zero, suc, ◌≤◌, List, [], ◌∷◌, length, Option, Some, None, option_map, option_and_then, refl, ap, ◌∙◌}
 use Rattle.json.specs.Token.{Token}
 use Rattle.json.specs.Json as json
-use Rattle.json.specs.Json.{Parse, parse_map, after_end_array, read_key, items_step, members_step, items, members, if_last}
+use Rattle.json.specs.Json.{Parse, parse_map, after_end_array, read_key, items_step, members_step, items, members, value, if_last}
 use Rattle.json.proofs.Grammar.{items_end, members_end, members_no_key}
 use Rattle.serde_json.specs.Data.{Data, array, object, Items, no_items, item, Members, no_members, put}
 use Rattle.serde_json.specs.Read.{of_json, of_items, of_members, converted}
+
+-- ---- the first token
+
+-- what tokens are of which the first is of this kind
+pub value_from : {A : Type 0} (token : A → Token) (depth : ℕ) (ts us : List Token) (a b : A) → ts ≡ token a ∷ us → a ≡ b
+    → converted of_json (value depth ts) ≡ converted of_json (value depth (token b ∷ us))
+value_from token depth ts us a b first is = ap (λ l. converted of_json (value depth l)) (first ∙ ap (λ x. token x ∷ us) is)
 
 -- ---- data with what follows it
 

@@ -6,7 +6,7 @@ use Rattle.serde_json.specs.Data.{array, object, string}
 use Rattle.serde_json.specs.Read.{of_json, of_members, converted}
 use Rattle.json_fields.specs.Nodes.{items_from, members_from, values_of, value_of, top}
 use Rattle.json_fields.proofs.NodeLemmas.{items_from-none, members_from-none, one_more_item, one_more_member, drop-more, drop-more_two}
-use Rattle.json_fields.proofs.Turns.{in_array, in_object, next_item, no_next_item, after_items, next_member, no_next_member, no_key, after_members}
+use Rattle.json_fields.proofs.Turns.{value_from, in_array, in_object, next_item, no_next_item, after_items, next_member, no_next_member, no_key, after_members}
 use Rattle.json_fields.proofs.nodes.+read.Goals as goal
 
 pub read-returns-in_err-token-clause-err : goal.read-returns-in_err-token-clause-err
@@ -31,47 +31,42 @@ read-returns-then-depth-eq0-2-clause-err t c never =
 pub read-returns-in_err-count-in-BeginArray-clause-err : goal.read-returns-in_err-count-in-BeginArray-clause-err
 read-returns-in_err-count-in-BeginArray-clause-err t c refused =
     let first : c.args.reader.now ≡ token_of c.in_ok-token.token ∷ c.next.new.self = grind arith in
-    let opened = ap (converted of_json) (ap (value c.args.depth) (first ∙ ap (λ k. token_of k ∷ c.next.new.self) c.in-BeginArray.is)
-    ∙ value-begin_array c.args.depth c.next.new.self (omega arith)) ∙ in_array (items (value (c.args.depth - 1)) (length c.next.new.self) c.next.new.self) in
+    let opened = value_from token_of c.args.depth _ _ _ _ first c.in-BeginArray.is
+    ∙ ap (converted of_json) (value-begin_array c.args.depth c.next.new.self (omega arith)) ∙ in_array (items (value (c.args.depth - 1)) (length c.next.new.self) c.next.new.self) in
     opened ∙ ap (parse_map array) (c.read_items.ensures.err (grind arith))
 
 pub read-returns-in_err-count-in-BeginObject-clause-err : goal.read-returns-in_err-count-in-BeginObject-clause-err
 read-returns-in_err-count-in-BeginObject-clause-err t c refused =
     let first : c.args.reader.now ≡ token_of c.in_ok-token.token ∷ c.next.new.self = grind arith in
-    let opened = ap (converted of_json) (ap (value c.args.depth) (first ∙ ap (λ k. token_of k ∷ c.next.new.self) c.in-BeginObject.is)
-    ∙ value-begin_object c.args.depth c.next.new.self (omega arith)) ∙ in_object (members (value (c.args.depth - 1)) (length c.next.new.self) c.next.new.self) in
+    let opened = value_from token_of c.args.depth _ _ _ _ first c.in-BeginObject.is
+    ∙ ap (converted of_json) (value-begin_object c.args.depth c.next.new.self (omega arith)) ∙ in_object (members (value (c.args.depth - 1)) (length c.next.new.self) c.next.new.self) in
     opened ∙ ap (parse_map object) (c.read_members.ensures.err (grind arith))
 
 pub read-returns-in_ok-put-in-String-clause-ok : goal.read-returns-in_ok-put-in-String-clause-ok
 read-returns-in_ok-put-in-String-clause-ok t c =
     let first : c.args.reader.now ≡ token_of c.in_ok-token.token ∷ c.next.new.self = grind arith in
-    let is = first ∙ ap (λ k. token_of k ∷ c.next.new.self) c.in-String.is in
-    ap (converted of_json) (ap (value c.args.depth) is ∙ value_is c.args.depth _) ∙ ap (λ d. Some (d, c.next.new.self)) (sym (ap top c.in_ok-put-in-String.ensures.value))
+    value_from token_of c.args.depth _ _ _ _ first c.in-String.is ∙ ap (converted of_json) (value_is c.args.depth _) ∙ ap (λ d. Some (d, c.next.new.self)) (sym (ap top c.in_ok-put-in-String.ensures.value))
 
 pub read-returns-in_ok-put-in-Bool-clause-ok : goal.read-returns-in_ok-put-in-Bool-clause-ok
 read-returns-in_ok-put-in-Bool-clause-ok t c =
     let first : c.args.reader.now ≡ token_of c.in_ok-token.token ∷ c.next.new.self = grind arith in
-    let is = first ∙ ap (λ k. token_of k ∷ c.next.new.self) c.in-Bool.is in
-    ap (converted of_json) (ap (value c.args.depth) is ∙ value_is c.args.depth _) ∙ ap (λ d. Some (d, c.next.new.self)) (sym (ap top c.in_ok-put-in-Bool.ensures.value))
+    value_from token_of c.args.depth _ _ _ _ first c.in-Bool.is ∙ ap (converted of_json) (value_is c.args.depth _) ∙ ap (λ d. Some (d, c.next.new.self)) (sym (ap top c.in_ok-put-in-Bool.ensures.value))
 
 pub read-returns-in_ok-put-in-Null-clause-ok : goal.read-returns-in_ok-put-in-Null-clause-ok
 read-returns-in_ok-put-in-Null-clause-ok t c =
     let first : c.args.reader.now ≡ token_of c.in_ok-token.token ∷ c.next.new.self = grind arith in
-    let is = first ∙ ap (λ k. token_of k ∷ c.next.new.self) c.in-Null.is in
-    ap (converted of_json) (ap (value c.args.depth) is ∙ value_is c.args.depth _) ∙ ap (λ d. Some (d, c.next.new.self)) (sym (ap top c.in_ok-put-in-Null.ensures.value))
+    value_from token_of c.args.depth _ _ _ _ first c.in-Null.is ∙ ap (converted of_json) (value_is c.args.depth _) ∙ ap (λ d. Some (d, c.next.new.self)) (sym (ap top c.in_ok-put-in-Null.ensures.value))
 
 pub read-returns-in_ok-put-in-Some-clause-ok : goal.read-returns-in_ok-put-in-Some-clause-ok
 read-returns-in_ok-put-in-Some-clause-ok t c =
     let first : c.args.reader.now ≡ token_of c.in_ok-token.token ∷ c.next.new.self = grind arith in
-    let is = first ∙ ap (λ k. token_of k ∷ c.next.new.self) c.in-Number.is in
-    ap (converted of_json) (ap (value c.args.depth) is ∙ value_is c.args.depth _)
+    value_from token_of c.args.depth _ _ _ _ first c.in-Number.is ∙ ap (converted of_json) (value_is c.args.depth _)
     ∙ rw (← c.in-Some.ensures) (ap (λ d. Some (d, c.next.new.self)) (sym (ap top c.in_ok-put-in-Some.ensures.value)))
 
 pub read-returns-in-None-clause-err : goal.read-returns-in-None-clause-err
 read-returns-in-None-clause-err t c refused =
     let first : c.args.reader.now ≡ token_of c.in_ok-token.token ∷ c.next.new.self = grind arith in
-    let is = first ∙ ap (λ k. token_of k ∷ c.next.new.self) c.in-Number.is in
-    ap (converted of_json) (ap (value c.args.depth) is ∙ value_is c.args.depth _) ∙ rw (← c.in-None.ensures)
+    value_from token_of c.args.depth _ _ _ _ first c.in-Number.is ∙ ap (converted of_json) (value_is c.args.depth _) ∙ rw (← c.in-None.ensures)
 
 pub read-returns-in-EndObject-clause-err : goal.read-returns-in-EndObject-clause-err
 read-returns-in-EndObject-clause-err t c refused =
@@ -82,15 +77,15 @@ read-returns-in-EndObject-clause-err t c refused =
 pub read-returns-in_ok-put-in-BeginArray-clause-ok : goal.read-returns-in_ok-put-in-BeginArray-clause-ok
 read-returns-in_ok-put-in-BeginArray-clause-ok t c =
     let first : c.args.reader.now ≡ token_of c.in_ok-token.token ∷ c.next.new.self = grind arith in
-    let opened = ap (converted of_json) (ap (value c.args.depth) (first ∙ ap (λ k. token_of k ∷ c.next.new.self) c.in-BeginArray.is)
-    ∙ value-begin_array c.args.depth c.next.new.self (omega arith)) ∙ in_array (items (value (c.args.depth - 1)) (length c.next.new.self) c.next.new.self) in
+    let opened = value_from token_of c.args.depth _ _ _ _ first c.in-BeginArray.is
+    ∙ ap (converted of_json) (value-begin_array c.args.depth c.next.new.self (omega arith)) ∙ in_array (items (value (c.args.depth - 1)) (length c.next.new.self) c.next.new.self) in
     opened ∙ ap (parse_map array) c.in_ok-count-in-BeginArray.ensures.ok ∙ ap (λ d. Some (d, c.read_items.new.reader)) (sym (ap top c.in_ok-put-in-BeginArray.ensures.value))
 
 pub read-returns-in_ok-put-in-BeginObject-clause-ok : goal.read-returns-in_ok-put-in-BeginObject-clause-ok
 read-returns-in_ok-put-in-BeginObject-clause-ok t c =
     let first : c.args.reader.now ≡ token_of c.in_ok-token.token ∷ c.next.new.self = grind arith in
-    let opened = ap (converted of_json) (ap (value c.args.depth) (first ∙ ap (λ k. token_of k ∷ c.next.new.self) c.in-BeginObject.is)
-    ∙ value-begin_object c.args.depth c.next.new.self (omega arith)) ∙ in_object (members (value (c.args.depth - 1)) (length c.next.new.self) c.next.new.self) in
+    let opened = value_from token_of c.args.depth _ _ _ _ first c.in-BeginObject.is
+    ∙ ap (converted of_json) (value-begin_object c.args.depth c.next.new.self (omega arith)) ∙ in_object (members (value (c.args.depth - 1)) (length c.next.new.self) c.next.new.self) in
     opened ∙ ap (parse_map object) c.in_ok-count-in-BeginObject.ensures.ok ∙ ap (λ d. Some (d, c.read_members.new.reader)) (sym (ap top c.in_ok-put-in-BeginObject.ensures.value))
 
 pub read_items-items-init : goal.read_items-items-init

@@ -1,21 +1,17 @@
-use Rattle.std.proofs.Common.{◌≡◌, drop, get_or, true, false, ◌==◌, sym, ap, ◌∙◌, arith, take_all, length-drop}
-use Rattle.fast_float.specs.Text.{scan}
+use Rattle.std.proofs.Common.{true, false, ap, ◌∙◌}
 use Rattle.serde_json.specs.Read.{number_of, number_from}
+use Rattle.json_fields.proofs.NumberLemmas.{below_zero, from_zero_on}
 use Rattle.json_fields.proofs.number.number.Goals as goal
 
-pub returns-then-has_minus : goal.returns-then-has_minus
-unfolding number_of
-returns-then-has_minus c =
-    let s = c.as_bytes-bytes.result.now in
-    let signed : (get_or s 0 0 == 45) ≡ true = sym c.if-has_minus.ensures.value in
-    let parts : c.scan.result ≡ scan (drop 1 s) = c.scan.ensures.parts ∙ ap scan (take_all _ (drop 1 s) (omega (arith, length-drop 1 s))) in
-    let read : number_from true (scan (drop 1 s)) ≡ number_of s = rw signed in
-    c.negative.ensures ∙ ap (number_from true) parts ∙ read ∙ ap number_of c.as_bytes-bytes.ensures.value
+pub returns-in-Some : goal.returns-in-Some
+returns-in-Some c =
+    let text = c.as_bytes-bytes.result.now in
+    let digits = c.in-Some.digits.now in
+    c.with_sign.ensures ∙ ap (number_from true) c.scan.ensures.parts
+    ∙ below_zero text digits c.in-Some.ensures.cases.0 c.in-Some.ensures.cases.1 ∙ ap number_of c.as_bytes-bytes.ensures.value
 
-pub returns-else-has_minus : goal.returns-else-has_minus
-unfolding number_of
-returns-else-has_minus c =
-    let s = c.as_bytes-bytes.result.now in
-    let unsigned : (get_or s 0 0 == 45) ≡ false = sym c.if-has_minus.ensures.value in
-    let read : number_from false (scan s) ≡ number_of s = rw unsigned in
-    c.unsigned.ensures ∙ ap (number_from false) c.scan-else-has_minus.ensures.parts ∙ read ∙ ap number_of c.as_bytes-bytes.ensures.value
+pub returns-in-None : goal.returns-in-None
+returns-in-None c =
+    let text = c.as_bytes-bytes.result.now in
+    c.with_sign-in-None.ensures ∙ ap (number_from false) c.scan-in-None.ensures.parts
+    ∙ from_zero_on text c.in-None.ensures.cases ∙ ap number_of c.as_bytes-bytes.ensures.value
