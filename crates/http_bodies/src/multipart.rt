@@ -24,7 +24,7 @@ pub struct UploadBody {
 ///
 /// Rule: S3 User Guide, "Uploading and copying objects using multipart upload", "Understanding and managing Amazon S3
 /// storage classes" and "Categorizing your objects using tags". Own rules: those of `read_put`.
-/// Cost: one pass over the bytes, and memory for their values.
+/// Cost: one pass over the bytes, and one over their values for each field; memory for the values.
 ///
 /// # Errors
 ///
@@ -49,7 +49,7 @@ pub fn read_upload(alloc: Global, bytes: &[u8]) -> Result<UploadBody, BodyFault>
 /// Reads the size of a part in bytes: a JSON object with `size`, a whole number. An empty body counts as `{}`.
 ///
 /// Own rules: a whole number is written as an integer; the range of a part's size is not checked here.
-/// Cost: one pass over the bytes, and memory for their values.
+/// Cost: one pass over the bytes, and one over their values for each field; memory for the values.
 ///
 /// # Errors
 ///

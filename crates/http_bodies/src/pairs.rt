@@ -9,7 +9,7 @@ use json_fields::{Element, ObjectFields};
 use std::alloc::{AllocError, Global};
 use std::collections::BTreeMap;
 
-/// Texts by their names.
+// Texts by their names.
 pub(crate) type Texts<'a> = BTreeMap<&'a str, &'a str>;
 
 // The texts of the fields, by their names. If a name comes twice, the last text counts. None if a value that counts is

@@ -28,7 +28,7 @@ pub struct PutBody {
 /// and "Categorizing your objects using tags". Own rules: if a name occurs twice in an object, the last value counts; a
 /// missing class is STANDARD; null does not count as missing; a whole number is written as an integer, not as `1.0` or
 /// `1e3`.
-/// Cost: one pass over the bytes, and memory for their values.
+/// Cost: one pass over the bytes, and one over their values for each field; memory for the values.
 ///
 /// # Errors
 ///

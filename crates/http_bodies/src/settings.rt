@@ -13,7 +13,7 @@ use std::alloc::Global;
 /// `Suspended` (false). An empty body counts as `{}`.
 ///
 /// Rule: S3 User Guide, "Enabling versioning on buckets".
-/// Cost: one pass over the bytes, and memory for their values.
+/// Cost: one pass over the bytes, and one over their values for each field; memory for the values.
 ///
 /// # Errors
 ///
@@ -33,7 +33,7 @@ pub fn read_status(alloc: Global, bytes: &[u8]) -> Result<bool, BodyFault>
 /// `{}`.
 ///
 /// Rule: S3 User Guide, "Categorizing your objects using tags". Own rule: the field is required, and may have no tags.
-/// Cost: one pass over the bytes, and memory for their values.
+/// Cost: one pass over the bytes, and one over their values for each field; memory for the values.
 ///
 /// # Errors
 ///

@@ -14,7 +14,7 @@ use std::alloc::{AllocError, Global};
 // How deep arrays and objects may nest: as deep as serde_json lets them.
 const MAX_DEPTH: usize = 127;
 
-/// The value of a text. It takes at most 12 bytes of memory for a byte of the text; names and strings are borrowed.
+/// The value of a text. It takes 12 bytes of memory for a byte of the text, and 24 more; names and strings are borrowed.
 #[derive(Drop)]
 pub struct Document<'a> {
     nodes: Vec<Node<'a>>,

@@ -156,7 +156,7 @@ where
         (world result.disk result.clock out.new input.new port.new keeper.new) result.status }
 
     // What a crash at any moment leaves of such a disk is sound when the machine starts again. So the next run begins on
-    // a sound disk, with the history that `survives` speaks of.
+    // a sound disk too.
     ensures restarts { LeavesSound
         (parts S.Source D.Disk C.Clock W.Replies P.Port (G.let_through gate.now) K.BillKeeper)
         (world disk clock out.old input.old port.old keeper.old)
