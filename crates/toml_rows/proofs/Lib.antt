@@ -1,0 +1,5 @@
+pub mod NameLemmas
+pub mod SearchLemmas
+pub mod NodeLemmas
+pub mod TableLemmas
+pub mod ChangeLemmas

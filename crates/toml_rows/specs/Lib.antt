@@ -1,0 +1,4 @@
+pub mod Names
+pub mod Search
+pub mod Rows
+pub mod Tables

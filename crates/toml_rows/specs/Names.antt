@@ -1,0 +1,12 @@
+-- Names, one behind the other.
+use Rattle.std.specs.Prelude.{◌≡◌, ℕ, ◌-◌, ◌≤◌, List, [], ◌∷◌, take, drop}
+
+-- the names with these ends, of which the first begins at `start`
+unfoldable pub names_from : ℕ → List ℕ → List ℕ → List (List ℕ)
+names_from start [] bytes = []
+names_from start (end ∷ ends) bytes = take (end - start) (drop start bytes) ∷ names_from end ends bytes
+
+-- the ends do not fall, and the last one is this number
+abbrev pub Rise : ℕ → List ℕ → ℕ → Type 0
+Rise start [] last = start ≡ last
+Rise start (end ∷ ends) last = (start ≤ end) × Rise end ends last

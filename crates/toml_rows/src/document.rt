@@ -1,0 +1,96 @@
+// Documents.
+use crate::keys::Keys;
+use crate::tables::{open_element, open_table, put};
+use crate::values::{key_equals, value};
+use std::alloc::Global;
+use toml_parser::text::{byte_at, first, skip, skip_blank, skip_ws};
+use toml_parser::{ErrorKind, Key, ParseError, RECURSION_LIMIT, dotted_key};
+
+// What stands on a line: a pair with the text of its value, a header, or a header in double brackets.
+#[derive(Clone, Copy)]
+enum Definition<'s> {
+    Pair(&'s str),
+    Table,
+    Element,
+}
+
+/// Reads the keys of a document.
+pub fn document(alloc: Global, s: &str) -> Result<Keys<'_>, ParseError> {
+    let mut keys = Keys::new(alloc)?;
+    let mut section = 0;
+    let mut rest = skip_bom(s);
+    'lines: loop {
+        let start = skip_blank(rest, true);
+        if start.is_empty() {
+            return Ok(keys);
+        }
+        let (key, what, after) = line(alloc, start)?;
+        section = define(&mut keys, section, &key, what)?;
+        rest = after;
+    }
+}
+
+/// Reads a document; None if the text is none.
+pub fn read(alloc: Global, s: &str) -> Result<Option<Keys<'_>>, std::alloc::AllocError> {
+    match document(alloc, s) {
+        Ok(keys) => Ok(Some(keys)),
+        Err(ParseError::OutOfMemory) => Err(std::alloc::AllocError),
+        Err(_) => Ok(None),
+    }
+}
+
+fn skip_bom(s: &str) -> &str {
+    if first(s) == 0xEF && byte_at(s, 1) == 0xBB && byte_at(s, 2) == 0xBF {
+        &s[3..]
+    } else {
+        s
+    }
+}
+
+// Gives the table that the next pairs go into.
+fn define<'s>(keys: &mut Keys<'s>, section: u32, key: &Key, what: Definition<'s>) -> Result<u32, ParseError> {
+    match what {
+        Definition::Pair(text) => {
+            put(keys, section, key, text)?;
+            Ok(section)
+        }
+        Definition::Table => open_table(keys, key),
+        Definition::Element => open_element(keys, key),
+    }
+}
+
+fn line(alloc: Global, s: &str) -> Result<(Key, Definition<'_>, &str), ParseError> {
+    let (key, what, rest) = expression(alloc, s)?;
+    let end = skip_ws(rest);
+    if end.is_empty() || matches!(first(end), b'#' | b'\n' | b'\r') {
+        Ok((key, what, rest))
+    } else {
+        Err(ParseError::at(ErrorKind::EndOfLine, end))
+    }
+}
+
+fn expression(alloc: Global, s: &str) -> Result<(Key, Definition<'_>, &str), ParseError> {
+    if first(s) == b'[' && byte_at(s, 1) == b'[' {
+        let (key, rest) = header_key(alloc, skip(s, 2))?;
+        if first(rest) != b']' {
+            return Err(ParseError::at(ErrorKind::UnclosedArrayTable, rest));
+        }
+        Ok((key, Definition::Element, skip(rest, 1)))
+    } else if first(s) == b'[' {
+        let (key, rest) = header_key(alloc, skip(s, 1))?;
+        Ok((key, Definition::Table, rest))
+    } else {
+        let (key, at_value) = key_equals(alloc, s)?;
+        let rest = value(alloc, at_value, RECURSION_LIMIT)?;
+        Ok((key, Definition::Pair(at_value), rest))
+    }
+}
+
+// The key of a header and its first closing bracket.
+fn header_key(alloc: Global, s: &str) -> Result<(Key, &str), ParseError> {
+    let (key, rest) = dotted_key(alloc, skip_ws(s))?;
+    if first(rest) != b']' {
+        return Err(ParseError::at(ErrorKind::UnclosedTable, rest));
+    }
+    Ok((key, skip(rest, 1)))
+}

@@ -1,0 +1,17 @@
+//! Reads a document of TOML into rows: a few bytes for each part of a key, and no map for each table.
+#![tactic(auto)]
+
+mod arrays;
+mod document;
+mod keys;
+mod names;
+mod row;
+mod tables;
+mod values;
+
+pub use arrays::elements;
+pub use document::{document, read};
+pub use keys::Keys;
+pub use names::Names;
+pub use row::{Part, Seat, What};
+pub use values::inline_table;

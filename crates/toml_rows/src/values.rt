@@ -1,0 +1,85 @@
+// Values: each is read to its end, and what it says is dropped.
+use crate::keys::Keys;
+use crate::tables::put;
+use std::alloc::Global;
+use toml_parser::text::{first, skip, skip_blank, skip_ws};
+use toml_parser::{ErrorKind, Key, ParseError, dotted_key, quoted, starts_string, unquoted};
+
+/// Reads a value with arrays and inline tables at most `depth` deep, and gives the text after it.
+#[cycle(value)]
+pub(crate) fn value(alloc: Global, s: &str, depth: usize) -> Result<&str, ParseError> {
+    let byte = first(s);
+    if byte != b'[' && byte != b'{' {
+        return atom(alloc, s);
+    }
+    if depth == 0 {
+        return Err(ParseError::at(ErrorKind::Recursion, s));
+    }
+    if byte == b'[' {
+        array(alloc, skip(s, 1), depth - 1)
+    } else {
+        let (_, rest) = inline_table(alloc, skip(s, 1), depth - 1)?;
+        Ok(rest)
+    }
+}
+
+fn atom(alloc: Global, s: &str) -> Result<&str, ParseError> {
+    if starts_string(s) {
+        let (_, rest) = quoted(alloc, s)?;
+        Ok(rest)
+    } else {
+        let (_, rest) = unquoted(alloc, s)?;
+        Ok(rest)
+    }
+}
+
+#[cycle(value)]
+fn array(alloc: Global, s: &str, depth: usize) -> Result<&str, ParseError> {
+    let mut rest = s;
+    'items: loop {
+        let start = skip_blank(rest, true);
+        if first(start) == b']' {
+            return Ok(skip(start, 1));
+        }
+        let after = value(alloc, start, depth)?;
+        rest = after_element(after, b']', ErrorKind::Array)?;
+    }
+}
+
+/// Reads the rest of an inline table.
+#[cycle(value)]
+pub fn inline_table(alloc: Global, s: &str, depth: usize) -> Result<(Keys<'_>, &str), ParseError> {
+    let mut keys = Keys::new(alloc)?;
+    let mut rest = s;
+    'members: loop {
+        let start = skip_blank(rest, true);
+        if first(start) == b'}' {
+            return Ok((keys, skip(start, 1)));
+        }
+        let (key, at_value) = key_equals(alloc, start)?;
+        let after = value(alloc, at_value, depth)?;
+        put(&mut keys, 0, &key, at_value)?;
+        rest = after_element(after, b'}', ErrorKind::InlineTable)?;
+    }
+}
+
+// After a comma, or at the closing bracket.
+pub(crate) fn after_element(s: &str, closing: u8, missing: ErrorKind) -> Result<&str, ParseError> {
+    let rest = skip_blank(s, true);
+    if first(rest) == b',' {
+        Ok(skip(rest, 1))
+    } else if first(rest) == closing {
+        Ok(rest)
+    } else {
+        Err(ParseError::at(missing, rest))
+    }
+}
+
+// A key, `=` and the white space after it.
+pub(crate) fn key_equals(alloc: Global, s: &str) -> Result<(Key, &str), ParseError> {
+    let (key, rest) = dotted_key(alloc, s)?;
+    if first(rest) != b'=' {
+        return Err(ParseError::at(ErrorKind::MissingEquals, rest));
+    }
+    Ok((key, skip_ws(skip(rest, 1))))
+}
