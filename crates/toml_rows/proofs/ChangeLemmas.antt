@@ -125,6 +125,7 @@ module _ (old new : Row) (t : ℕ) (k : List ℕ) (w : What) (grows : Grows old 
       grown_tree = record {
           some = omega (arith, grows.count);
           small = small;
+          named = let a = tree.named in omega (arith, grows.count, grows.named);
           root = ap is_key (grows.whats 0 tree.some) ∙ tree.root;
           root_table = grows.tables 0 tree.some ∙ tree.root_table;
           tables = λ i low key. elim (cases_eq i old.count) [
@@ -323,6 +324,7 @@ module _ (old new : Row) (at t : ℕ) (k : List ℕ) (w : What) (sets : Sets old
     set_tree = record {
         some = let a = tree.some in omega (arith, sets.count);
         small = let a = tree.small in omega (arith, sets.count);
+        named = sets.named ∙ tree.named ∙ sym sets.count;
         root = set_key 0 tree.some ∙ tree.root;
         root_table = sets.tables 0 tree.some ∙ tree.root_table;
         tables = λ i low key.
@@ -461,6 +463,7 @@ module _ (old new : Row) (at t : ℕ) (k : List ℕ) (b : ℕ) (nexts : Nexts ol
     next_tree = record {
         some = omega (arith, nexts.count);
         small = small;
+        named = let a = tree.named in omega (arith, nexts.count, nexts.named);
         root = next_key 0 tree.some ∙ tree.root;
         root_table = nexts.tables 0 tree.some ∙ tree.root_table;
         tables = λ i low key.

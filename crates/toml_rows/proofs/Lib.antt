@@ -3,3 +3,5 @@ pub mod SearchLemmas
 pub mod NodeLemmas
 pub mod TableLemmas
 pub mod ChangeLemmas
+pub mod RowLemmas
+pub mod EnterLemmas

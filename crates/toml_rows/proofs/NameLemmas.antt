@@ -1,15 +1,15 @@
 -- One more name, and the name at an index.
 use Rattle.std.proofs.Common.{◌≡◌, ℕ, zero, suc, ◌+◌, ◌-◌, ◌<◌, ◌≤◌, List, [], ◌∷◌, ◌++◌, length, take, drop, get_or, refl, ap, ap₂, sym, ◌∙◌, arith, length-append, length-drop, length-take, take_all}
 use Rattle.std.proofs.lemmas.List.{take-append-le, drop-append-le, drop_at}
-use Rattle.toml_rows.specs.Names.{names_from, Rise}
+use Rattle.toml_rows.specs.Names.{names_from, Rise, start_of}
 
-pub Rise-le : (start : ℕ) (ends : List ℕ) (last : ℕ) → Rise start ends last → start ≤ last
-Rise-le start [] last h = omega arith
-Rise-le start (end ∷ ends) last h = omega (arith, Rise-le end ends last h.1)
+pub rise_le : (start : ℕ) (ends : List ℕ) (last : ℕ) → Rise start ends last → start ≤ last
+rise_le start [] last h = omega arith
+rise_le start (end ∷ ends) last h = omega (arith, rise_le end ends last h.1)
 
-pub Rise-push : (start : ℕ) (ends : List ℕ) (last new : ℕ) → Rise start ends last → last ≤ new → Rise start (ends ++ new ∷ []) new
-Rise-push start [] last new h le = (omega arith, refl)
-Rise-push start (end ∷ ends) last new h le = (h.0, Rise-push end ends last new h.1 le)
+pub rise_push : (start : ℕ) (ends : List ℕ) (last new : ℕ) → Rise start ends last → last ≤ new → Rise start (ends ++ new ∷ []) new
+rise_push start [] last new h le = (omega arith, refl)
+rise_push start (end ∷ ends) last new h le = (h.0, rise_push end ends last new h.1 le)
 
 part_kept : (start end : ℕ) (bytes more : List ℕ) → start ≤ end → end ≤ length bytes
     → take (end - start) (drop start (bytes ++ more)) ≡ take (end - start) (drop start bytes)
@@ -28,7 +28,7 @@ pub names_push : (start : ℕ) (ends bytes more : List ℕ) (end : ℕ) → Rise
 unfolding names_from
 names_push start [] bytes more end rise is = ap (λ x. x ∷ []) (part_new start bytes more end rise is)
 names_push start (e ∷ ends) bytes more end rise is =
-    ap₂ (λ x xs. x ∷ xs) (part_kept start e bytes more rise.0 (Rise-le e ends (length bytes) rise.1)) (names_push e ends bytes more end rise.1 is)
+    ap₂ (λ x xs. x ∷ xs) (part_kept start e bytes more rise.0 (rise_le e ends (length bytes) rise.1)) (names_push e ends bytes more end rise.1 is)
 
 pub names_none : (bytes : List ℕ) → names_from 0 [] bytes ≡ []
 unfolding names_from
@@ -39,16 +39,11 @@ unfolding names_from
 names_length start [] bytes = refl
 names_length start (e ∷ ends) bytes = ap suc (names_length e ends bytes)
 
--- where the name at an index begins
-abbrev pub start_of : ℕ → List ℕ → ℕ → ℕ
-start_of start ends zero = start
-start_of start ends (suc i) = get_or ends i 0
-
 -- a name has its place among the bytes
 pub place : (start : ℕ) (ends : List ℕ) (last i : ℕ) → Rise start ends last → i < length ends
     → (start_of start ends i ≤ get_or ends i 0) × (get_or ends i 0 ≤ last)
 place start [] last i rise within = absurd (omega arith)
-place start (e ∷ ends) last zero rise within = (rise.0, Rise-le e ends last rise.1)
+place start (e ∷ ends) last zero rise within = (rise.0, rise_le e ends last rise.1)
 place start (e ∷ ends) last (suc zero) rise within = place e ends last zero rise.1 (omega arith)
 place start (e ∷ ends) last (suc (suc i)) rise within = place e ends last (suc i) rise.1 (omega arith)
 
@@ -65,3 +60,12 @@ unfolding names_from
 no_name start [] bytes i past = refl
 no_name start (e ∷ ends) bytes zero past = absurd (omega arith)
 no_name start (e ∷ ends) bytes (suc i) past = no_name e ends bytes i (omega arith)
+
+-- an index as the code computes with it
+pub start_later : (ends : List ℕ) (i : ℕ) → ¬ (i ≡ 0) → start_of 0 ends i ≡ get_or ends (i - 1) 0
+start_later ends zero some = absurd (some refl)
+start_later ends (suc i) some = let e : suc i - 1 ≡ i = omega arith in rw e
+
+pub start_first : (ends : List ℕ) (i : ℕ) → i ≡ 0 → start_of 0 ends i ≡ 0
+start_first ends zero is = refl
+start_first ends (suc i) is = absurd (omega arith)

@@ -2,3 +2,4 @@ pub mod Names
 pub mod Search
 pub mod Rows
 pub mod Tables
+pub mod Reading

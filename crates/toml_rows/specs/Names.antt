@@ -1,5 +1,5 @@
 -- Names, one behind the other.
-use Rattle.std.specs.Prelude.{◌≡◌, ℕ, ◌-◌, ◌≤◌, List, [], ◌∷◌, take, drop}
+use Rattle.std.specs.Prelude.{◌≡◌, ℕ, zero, suc, ◌-◌, ◌≤◌, List, [], ◌∷◌, take, drop, get_or}
 
 -- the names with these ends, of which the first begins at `start`
 unfoldable pub names_from : ℕ → List ℕ → List ℕ → List (List ℕ)
@@ -10,3 +10,8 @@ names_from start (end ∷ ends) bytes = take (end - start) (drop start bytes) �
 abbrev pub Rise : ℕ → List ℕ → ℕ → Type 0
 Rise start [] last = start ≡ last
 Rise start (end ∷ ends) last = (start ≤ end) × Rise end ends last
+
+-- where the name at an index begins
+abbrev pub start_of : ℕ → List ℕ → ℕ → ℕ
+start_of start ends zero = start
+start_of start ends (suc i) = get_or ends i 0

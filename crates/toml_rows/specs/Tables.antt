@@ -11,6 +11,7 @@ use Rattle.toml_rows.specs.Rows.{is_key, is_open, inside, Row, HasKey}
 pub record IsTree (row : Row) : Type 0 where
   pub some : 0 < row.count
   pub small : row.count < none
+  pub named : row.named ≡ row.count
   pub root : is_key (row.what 0) ≡ false
   pub root_table : row.table 0 ≡ none
   pub tables : (i : ℕ) → i < row.count → is_key (row.what i) ≡ true → row.table i < i

@@ -1,5 +1,6 @@
 // The keys of a document in one row, and the search for one of them.
-ghost use Rattle.std.specs.Prelude.{◌≡◌, ℕ, ◌<◌, ◌↔◌, true, IsTrue, IfOk, length, slice_index_or, [], ◌++◌, ◌∷◌, if◌then◌else◌};
+ghost use Rattle.std.specs.Prelude.{◌≡◌, ℕ, ◌<◌, ◌↔◌, false, IsTrue, IfOk, length};
+ghost use Rattle.toml_rows.specs.Rows.{is_key, row_of, key_bit, IsFoundBy, IsFree, IsSeat, IsEmpty, Pushes, Relinks, Adds, Puts, with_value};
 
 use crate::names::Names;
 use crate::row::{NONE, Part, Seat, What};
@@ -18,7 +19,9 @@ pub struct Keys<'s> {
 }
 
 // A bit of a key.
-fn bit(table: u32, name: &[u8], turn: usize) -> bool {
+fn bit(table: u32, name: &[u8], turn: usize) -> bool
+    ensures { result ≡ key_bit table name.now turn }
+{
     if turn < TABLE_BITS {
         return table / 2u32.pow(turn as u32) % 2 == 1;
     }
@@ -31,7 +34,9 @@ fn bit(table: u32, name: &[u8], turn: usize) -> bool {
 
 impl<'s> Keys<'s> {
     /// No keys.
-    pub fn new(alloc: Global) -> Result<Keys<'s>, AllocError> {
+    pub fn new(alloc: Global) -> Result<Keys<'s>, AllocError>
+        ensures { IfOk result (λ keys. IsEmpty (row_of keys)) }
+    {
         let mut parts = Vec::new(alloc);
         let mut names = Names::new(alloc);
         names.push(&[])?;
@@ -52,7 +57,9 @@ impl<'s> Keys<'s> {
     }
 
     /// What a part holds.
-    pub fn what(&self, part: u32) -> What {
+    pub fn what(&self, part: u32) -> What
+        ensures { result ≡ (row_of self.now).what part }
+    {
         match self.parts.get(part as usize) {
             Some(part) => part.what,
             None => What::Element(NONE),
@@ -60,14 +67,18 @@ impl<'s> Keys<'s> {
     }
 
     /// The table that has a part.
-    pub fn table(&self, part: u32) -> u32 {
+    pub fn table(&self, part: u32) -> u32
+        ensures { result ≡ (row_of self.now).table part }
+    {
         match self.parts.get(part as usize) {
             Some(part) => part.table,
             None => NONE,
         }
     }
 
-    fn link(&self, part: u32, high: bool) -> u32 {
+    fn link(&self, part: u32, high: bool) -> u32
+        ensures { result ≡ (row_of self.now).link part high }
+    {
         match self.parts.get(part as usize) {
             Some(part) => {
                 if high {
@@ -80,12 +91,17 @@ impl<'s> Keys<'s> {
         }
     }
 
-    fn is(&self, part: u32, table: u32, name: &[u8]) -> bool {
+    fn is(&self, part: u32, table: u32, name: &[u8]) -> bool
+        ensures { IsTrue result ↔ ((row_of self.now).table part ≡ table) × ((row_of self.now).name part ≡ name.now) }
+    {
         self.table(part) == table && self.names.get(part as usize) == name
     }
 
     /// Looks for a key.
-    pub fn find(&self, table: u32, name: &[u8]) -> Seat {
+    pub fn find(&self, table: u32, name: &[u8]) -> Seat
+        ensures { (level : ℕ → ℕ) → IsFoundBy (row_of self.now) level → is_key ((row_of self.now).what 0) ≡ false
+            → IsSeat (row_of self.now) level table name.now result }
+    {
         let mut at = 0;
         'turns: for turn in 0..self.parts.len() {
             let high = bit(table, name, turn);
@@ -102,7 +118,10 @@ impl<'s> Keys<'s> {
     }
 
     /// Adds a part at the end, outside the search.
-    pub fn push(&mut self, table: u32, name: &[u8], what: What) -> Result<u32, AllocError> {
+    pub fn push(&mut self, table: u32, name: &[u8], what: What) -> Result<u32, AllocError>
+        ensures { (row_of self.old).named ≡ (row_of self.old).count
+            → IfOk result (λ n. Pushes (row_of self.old) (row_of self.new) table name.now what n) }
+    {
         let number = self.parts.len();
         if number >= 4_294_967_294 {
             return Err(AllocError);
@@ -120,7 +139,9 @@ impl<'s> Keys<'s> {
         }
     }
 
-    fn set_link(&mut self, part: u32, high: bool, next: u32) {
+    fn set_link(&mut self, part: u32, high: bool, next: u32)
+        ensures { part < (row_of self.old).count → Relinks (row_of self.old) (row_of self.new) part high next }
+    {
         if let Some(part) = self.parts.get_mut(part as usize) {
             if high {
                 part.high = next;
@@ -131,21 +152,30 @@ impl<'s> Keys<'s> {
     }
 
     /// Adds a key that is not there.
-    pub fn add(&mut self, table: u32, name: &[u8], at: u32, high: bool, what: What) -> Result<u32, AllocError> {
+    pub fn add(&mut self, table: u32, name: &[u8], at: u32, high: bool, what: What) -> Result<u32, AllocError>
+        ensures { (level : ℕ → ℕ) → IsFoundBy (row_of self.old) level → IsFree (row_of self.old) level table name.now at high
+            → IsTrue (is_key what) → (row_of self.old).named ≡ (row_of self.old).count
+            → IfOk result (λ n. Adds (row_of self.old) (row_of self.new) table name.now what n) }
+    {
         let number = self.push(table, name, what)?;
         self.set_link(at, high, number);
         Ok(number)
     }
 
     /// Sets what a part holds.
-    pub fn set(&mut self, part: u32, what: What) {
+    pub fn set(&mut self, part: u32, what: What)
+        ensures { part < (row_of self.old).count → Puts (row_of self.old) (row_of self.new) part what }
+    {
         if let Some(part) = self.parts.get_mut(part as usize) {
             part.what = what;
         }
     }
 
     /// Adds a value's text.
-    pub fn push_value(&mut self, text: &'s str) -> Result<u32, AllocError> {
+    pub fn push_value(&mut self, text: &'s str) -> Result<u32, AllocError>
+        ensures row { IfOk result (λ _. row_of self.new ≡ with_value (row_of self.old) text.now) }
+        ensures number { IfOk result (λ v. v ≡ length (row_of self.old).values) }
+    {
         let number = self.values.len();
         if number >= 4_294_967_295 {
             return Err(AllocError);

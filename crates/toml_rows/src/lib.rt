@@ -2,16 +2,16 @@
 #![tactic(auto)]
 
 mod arrays;
-mod document;
 mod keys;
 mod names;
+mod reading;
 mod row;
 mod tables;
 mod values;
 
 pub use arrays::elements;
-pub use document::{document, read};
 pub use keys::Keys;
 pub use names::Names;
+pub use reading::{document, read};
 pub use row::{Part, Seat, What};
 pub use values::inline_table;

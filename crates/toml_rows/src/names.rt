@@ -1,5 +1,6 @@
 // A row of names.
-ghost use Rattle.std.specs.Prelude.{◌≡◌, ◌++◌, ◌∷◌, [], IfOk, OnErr, length, slice_index_or};
+ghost use Rattle.std.specs.Prelude.{◌≡◌, ◌<◌, ◌++◌, ◌∷◌, [], IfOk, length, slice_index_or};
+ghost use Rattle.toml_rows.specs.Names.{start_of};
 
 use std::alloc::{AllocError, Global};
 use std::marker::Model;
@@ -25,6 +26,7 @@ impl Model for Names {
 
 impl Names {
     /// No names.
+    #[tactic(auto, using(crate::proofs::NameLemmas::names_none))]
     pub fn new(alloc: Global) -> Names
         ensures { result ≡ [] }
     {
@@ -35,9 +37,9 @@ impl Names {
     }
 
     /// Adds a name. Fails only if memory runs out.
+    #[tactic(auto, using(crate::proofs::NameLemmas::names_push, crate::proofs::NameLemmas::rise_push))]
     pub fn push(&mut self, name: &[u8]) -> Result<(), AllocError>
-        ensures ok { IfOk result (λ _. self.new ≡ self.old ++ name.now ∷ []) }
-        ensures err { OnErr result (self.new ≡ self.old) }
+        ensures { IfOk result (λ _. self.new ≡ self.old ++ name.now ∷ []) }
     {
         let end = self.bytes.len().saturating_add(name.len());
         if end > 4_294_967_295 {
@@ -45,20 +47,29 @@ impl Names {
         }
         self.ends.reserve(1)?;
         self.bytes.extend_from_slice(name)?;
-        match self.ends.push(end as u32) {
-            Ok(()) => Ok(()),
-            Err(_) => Err(AllocError),
-        }
+        self.ends.push_reserved(end as u32);
+        Ok(())
     }
 
     /// Reads a name; an empty one past the end.
+    #[tactic(auto, using(crate::proofs::NameLemmas::place, crate::proofs::NameLemmas::name_at, crate::proofs::NameLemmas::no_name))]
     pub fn get(&self, index: usize) -> &[u8]
         ensures { result.now ≡ slice_index_or self.now index [] }
     {
-        let Some(end) = self.ends.get(index) else {
+        if index >= self.ends.len() {
             return &[];
-        };
-        let start = if index == 0 { 0 } else { self.ends[index - 1] as usize };
-        &self.bytes[start..*end as usize]
+        }
+        let start = start(&self.ends, index);
+        let end = self.ends[index] as usize;
+        &self.bytes[start..end]
     }
+}
+
+// Where the name at an index begins.
+#[tactic(auto, using(crate::proofs::NameLemmas::start_later, crate::proofs::NameLemmas::start_first))]
+fn start(ends: &[u32], index: usize) -> usize
+    requires { index < length ends.now }
+    ensures { result ≡ start_of 0 ends.now index }
+{
+    if index == 0 { 0 } else { ends[index - 1] as usize }
 }
