@@ -98,6 +98,7 @@ impl<'s> Keys<'s> {
     }
 
     /// Looks for a key.
+    #[tactic(auto, using(crate::proofs::RowLemmas::turn_first))]
     pub fn find(&self, table: u32, name: &[u8]) -> Seat
         ensures { (level : ℕ → ℕ) → IsFoundBy (row_of self.now) level → is_key ((row_of self.now).what 0) ≡ false
             → IsSeat (row_of self.now) level table name.now result }
