@@ -5,3 +5,4 @@ pub mod TableLemmas
 pub mod ChangeLemmas
 pub mod RowLemmas
 pub mod EnterLemmas
+pub mod PathLemmas

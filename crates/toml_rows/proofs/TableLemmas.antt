@@ -61,6 +61,16 @@ header_stop datum f d i Header edit opens h = ap (option_map (open_table header)
 header_stop datum f d i (Tables l) edit opens h = ap (option_map (open_array (d l))) h
 header_stop datum f d i (Element b) edit opens h = absurd cc
 
+pub header_agree : (datum : ℕ → Data) (f : ℕ → Nodes) (d : ℕ → Items) (i : ℕ) (w : What) (e e' : Edit) → is_open w ≡ true
+    → e (f (inside i w)) ≡ e' (f (inside i w)) → header_node (along_header [] e) (node_of datum f d i w) ≡ header_node (along_header [] e') (node_of datum f d i w)
+unfolding along_header
+header_agree datum f d i (Value v) e e' opens h = absurd cc
+header_agree datum f d i Implicit e e' opens h = ap (option_map (open_table implicit)) h
+header_agree datum f d i Dotted e e' opens h = ap (option_map (open_table dotted)) h
+header_agree datum f d i Header e e' opens h = ap (option_map (open_table header)) h
+header_agree datum f d i (Tables l) e e' opens h = ap (option_map (open_array (d l))) h
+header_agree datum f d i (Element b) e e' opens h = absurd cc
+
 -- either the key leads to a table of its own number, or to an element
 inside_cases : (i : ℕ) (w : What) → (inside i w ≡ i) ⊎ (w ≡ Tables (inside i w))
 inside_cases i (Value v) = inl refl
@@ -240,3 +250,17 @@ module _ (datum : ℕ → Data) (row : Row) (tree : IsTree row) (d : ℕ → Ite
       ∙ fall leads f told (along_header (k ∷ []) edit)
         (along_found k [] edit (f t) (node_of datum f d i (row.what i)) (told.there i t k has)
         ∙ ap (option_map (λ new. replace k new (f t))) (header_stop datum f d i (row.what i) edit opens h))
+
+  -- edits that agree at the end of the path agree from the root
+  pub agree : {p : List (List ℕ)} {t : ℕ} → Leads row p t → (f : ℕ → Nodes) → IsTold datum row f f d → (e e' : Edit) → e (f t) ≡ e' (f t)
+      → along_header p e (f 0) ≡ along_header p e' (f 0)
+  unfolding along_header
+  agree at_root f told e e' h = h
+  agree (step {p} {t} i k leads has opens) f told e e' h =
+      let node = node_of datum f d i (row.what i) in
+      along_append p (k ∷ []) e (f 0)
+      ∙ agree leads f told (along_header (k ∷ []) e) (along_header (k ∷ []) e')
+        (along_found k [] e (f t) node (told.there i t k has)
+        ∙ ap (option_map (λ new. replace k new (f t))) (header_agree datum f d i (row.what i) e e' opens h)
+        ∙ sym (along_found k [] e' (f t) node (told.there i t k has)))
+      ∙ sym (along_append p (k ∷ []) e' (f 0))

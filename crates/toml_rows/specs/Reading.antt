@@ -1,14 +1,15 @@
 -- What the functions that change a row do to the tables that it stands for.
-use Rattle.std.specs.Prelude.{◌≡◌, ℕ, ◌<◌, Bool, true, false, List, [], ◌∷◌, ◌++◌, length, get_or, Option, Some, None, Result, MatchResult}
+use Rattle.std.specs.Prelude.{◌≡◌, ℕ, ◌<◌, Bool, true, false, List, [], ◌∷◌, ◌++◌, length, get_or, Option, Some, None, Result, MatchResult, ◌⊎◌}
 use Rattle.toml_parser.specs.declared.error.ParseError.{ParseError}
 use Rattle.toml_parser.specs.declared.error.ParseError.TheVariants.{OutOfMemory}
 use Rattle.toml_parser.specs.Lexical.{Read}
+use Rattle.toml_parser.specs.Strings.{Key}
 use Rattle.toml.specs.Data.{Data, boolean, Items, no_items}
 use Rattle.toml.specs.Tables.{Node, Nodes, no_nodes, value, open_table, open_array, implicit, dotted, header, get_node, insert, replace, Edit, along_header, at_key, Definition}
 use Rattle.toml.specs.Parse.{val}
 use Rattle.toml_rows.specs.declared.row.What.{What}
-use Rattle.toml_rows.specs.declared.row.What.TheVariants.{Value}
-use Rattle.toml_rows.specs.Rows.{Row, IsFound}
+use Rattle.toml_rows.specs.declared.row.What.TheVariants.{Value, Implicit, Dotted}
+use Rattle.toml_rows.specs.Rows.{is_open, inside, Row, IsFound, Puts}
 use Rattle.toml_rows.specs.Tables.{IsTree, IsTold, Leads}
 
 -- the data of a value that a text begins with
@@ -95,3 +96,30 @@ Opens depth old new t k edit r =
     At depth old t r
     (λ tables p s. Entered depth new (p ++ k ∷ []) s (λ top. along_header p edit (tables 0) ≡ Some top))
     (λ tables p. along_header p edit (tables 0) ≡ None)
+
+-- a dotted key passes through this
+abbrev pub is_dots : What → Bool
+is_dots Implicit = true
+is_dots Dotted = true
+is_dots what = false
+
+-- a header goes through what a part holds, unless it holds a value
+abbrev pub Passes : Row → ℕ → Result ℕ ParseError → Type 0
+Passes row i r =
+    MatchResult r (λ s. (is_open (row.what i) ≡ true) × (s ≡ inside i (row.what i)))
+    (λ e. ¬ (e ≡ OutOfMemory) → is_open (row.what i) ≡ false)
+
+-- a dotted key goes through what a part holds, and marks it
+abbrev pub Marks : Row → Row → ℕ → Result ℕ ParseError → Type 0
+Marks old new i r =
+    MatchResult r
+    (λ s. (s ≡ i) × (((old.what i ≡ Dotted) × (new ≡ old)) ⊎ ((old.what i ≡ Implicit) × Puts old new i Dotted)))
+    (λ e. ¬ (e ≡ OutOfMemory) → is_dots (old.what i) ≡ false)
+
+-- a header, from the root
+abbrev pub OpensAt : ℕ → Row → Row → Key → Definition → Result ℕ ParseError → Type 0
+OpensAt depth old new key what r =
+    (tables : ℕ → Nodes) (elements : ℕ → Items) → Holds depth old tables elements
+    → MatchResult r
+      (λ s. Entered depth new (key.0 ++ key.1 ∷ []) s (λ top. along_header key.0 (at_key key.1 what) (tables 0) ≡ Some top))
+      (λ e. ¬ (e ≡ OutOfMemory) → along_header key.0 (at_key key.1 what) (tables 0) ≡ None)
