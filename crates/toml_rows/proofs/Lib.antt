@@ -6,3 +6,4 @@ pub mod ChangeLemmas
 pub mod RowLemmas
 pub mod EnterLemmas
 pub mod PathLemmas
+pub mod DefineLemmas

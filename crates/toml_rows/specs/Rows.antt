@@ -204,3 +204,10 @@ pub record IsTurn (row : Row) (level : ℕ → ℕ) (t : ℕ) (k : List ℕ) (at
   pub at_it : IsAt row.count (bit_of row) (on_of row) row.link level (key_bit t k) at turn
   pub rises : turn ≤ at
   pub passed : (j : ℕ) → HasKey row j t k → at < j
+
+-- an array at a part has one element more, which is found no more than the others
+pub record NextOf (old new : Row) (at before n : ℕ) : Type 0 where
+  pub number : n ≡ old.count
+  pub small : new.count < none
+  pub nexts : Nexts old new at before
+  pub found : IsFound old → IsFound new

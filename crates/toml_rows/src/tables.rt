@@ -1,12 +1,13 @@
 // The rules by which keys and headers define tables.
-ghost use Rattle.std.specs.Prelude.{◌≡◌, ℕ, ◌<◌};
+ghost use Rattle.std.specs.Prelude.{◌≡◌, ℕ, ◌<◌, List, IfOk};
 ghost use Rattle.toml_parser.specs.Reading.{path_view, key_view};
 ghost use Rattle.toml.specs.Tables.{along_header, along_dots, at_key, put, key_value, std_table, array_table};
-ghost use Rattle.toml_rows.specs.Rows.{row_of};
+ghost use Rattle.toml_rows.specs.Rows.{row_of, HasKey, NextOf};
 ghost use Rattle.toml_rows.specs.Reading.{Passes, Marks, Enters, Follows, Edits, Opens, OpensAt, mark_header, mark_dots, data_at};
 
 use crate::keys::Keys;
 use crate::row::{NONE, Seat, What};
+use std::alloc::AllocError;
 use toml_parser::{ErrorKind, Key, ParseError};
 
 fn fault() -> ParseError {
@@ -92,10 +93,10 @@ fn through_dots(keys: &mut Keys, table: u32, path: &[String]) -> Result<u32, Par
 fn define_value<'s>(keys: &mut Keys<'s>, table: u32, name: &[u8], text: &'s str) -> Result<(), ParseError>
     ensures { (depth : ℕ) → Edits depth (row_of keys.old) (row_of keys.new) table (at_key name.now (key_value (data_at depth text.now))) result }
 {
+    let value = keys.push_value(text)?;
     match keys.find(table, name) {
         Seat::Found(_) => Err(fault()),
         Seat::Free(at, high) => {
-            let value = keys.push_value(text)?;
             keys.add(table, name, at, high, What::Value(value))?;
             Ok(())
         }
@@ -107,7 +108,8 @@ pub(crate) fn put<'s>(keys: &mut Keys<'s>, table: u32, key: &Key, text: &'s str)
     ensures { (depth : ℕ) → Edits depth (row_of keys.old) (row_of keys.new) table (put (key_view key.now) (data_at depth text.now)) result }
 {
     let inner = through_dots(keys, table, &key.path)?;
-    define_value(keys, inner, key.last.as_bytes(), text)
+    define_value(keys, inner, key.last.as_bytes(), text)?;
+    Ok(())
 }
 
 // A header may name a table that other headers only passed through.
@@ -131,11 +133,15 @@ pub(crate) fn open_table(keys: &mut Keys, key: &Key) -> Result<u32, ParseError>
     ensures { (depth : ℕ) → OpensAt depth (row_of keys.old) (row_of keys.new) (key_view key.now) std_table result }
 {
     let table = through_header(keys, 0, &key.path)?;
-    define_table(keys, table, key.last.as_bytes())
+    let opened = define_table(keys, table, key.last.as_bytes())?;
+    Ok(opened)
 }
 
 // Adds an element to the array at a part.
-fn next_element(keys: &mut Keys, part: u32, before: u32) -> Result<u32, ParseError> {
+fn next_element(keys: &mut Keys, part: u32, before: u32) -> Result<u32, AllocError>
+    ensures { (t : ℕ) (k : List ℕ) → HasKey (row_of keys.old) part t k → (row_of keys.old).named ≡ (row_of keys.old).count
+        → IfOk result (λ n. NextOf (row_of keys.old) (row_of keys.new) part before n) }
+{
     let element = keys.push(part, &[], What::Element(before))?;
     keys.set(part, What::Tables(element));
     Ok(element)
@@ -147,12 +153,12 @@ fn define_element(keys: &mut Keys, table: u32, name: &[u8]) -> Result<u32, Parse
 {
     match keys.find(table, name) {
         Seat::Found(part) => match keys.what(part) {
-            What::Tables(last) => next_element(keys, part, last),
+            What::Tables(last) => Ok(next_element(keys, part, last)?),
             _ => Err(fault()),
         },
         Seat::Free(at, high) => {
             let part = keys.add(table, name, at, high, What::Header)?;
-            next_element(keys, part, NONE)
+            Ok(next_element(keys, part, NONE)?)
         }
     }
 }
@@ -162,5 +168,6 @@ pub(crate) fn open_element(keys: &mut Keys, key: &Key) -> Result<u32, ParseError
     ensures { (depth : ℕ) → OpensAt depth (row_of keys.old) (row_of keys.new) (key_view key.now) array_table result }
 {
     let table = through_header(keys, 0, &key.path)?;
-    define_element(keys, table, key.last.as_bytes())
+    let opened = define_element(keys, table, key.last.as_bytes())?;
+    Ok(opened)
 }
