@@ -7,3 +7,4 @@ pub mod RowLemmas
 pub mod EnterLemmas
 pub mod PathLemmas
 pub mod DefineLemmas
+pub mod LoopLemmas

@@ -3,3 +3,4 @@ pub mod Search
 pub mod Rows
 pub mod Tables
 pub mod Reading
+pub mod Documents

@@ -12,6 +12,6 @@ mod values;
 pub use arrays::elements;
 pub use keys::Keys;
 pub use names::Names;
-pub use reading::{document, read};
+pub use reading::{Definition, document, read};
 pub use row::{Part, Seat, What};
 pub use values::inline_table;

@@ -1,4 +1,12 @@
 // Documents.
+ghost use Rattle.std.specs.Prelude.{◌≡◌, ℕ, ◌<◌, ◌≤◌, length, IfOk, MatchResult, MatchOption, None, Some};
+ghost use Rattle.toml_parser.specs.Strings.{recursion_limit};
+ghost use Rattle.toml_parser.specs.Reading.{Reads, Shortens, key_view};
+ghost use Rattle.toml.specs.Data.{Members};
+ghost use Rattle.toml.specs.Parse as spec;
+ghost use Rattle.toml_rows.specs.Rows.{row_of};
+ghost use Rattle.toml_rows.specs.Documents.{IsTable, GivesTable, ReadsLine, Defines, definition_view};
+
 use crate::keys::Keys;
 use crate::tables::{open_element, open_table, put};
 use crate::values::{key_equals, value};
@@ -8,14 +16,16 @@ use toml_parser::{ErrorKind, Key, ParseError, RECURSION_LIMIT, dotted_key};
 
 // What stands on a line: a pair with the text of its value, a header, or a header in double brackets.
 #[derive(Clone, Copy)]
-enum Definition<'s> {
+pub enum Definition<'s> {
     Pair(&'s str),
     Table,
     Element,
 }
 
 /// Reads the keys of a document.
-pub fn document(alloc: Global, s: &str) -> Result<Keys<'_>, ParseError> {
+pub fn document(alloc: Global, s: &str) -> Result<Keys<'_>, ParseError>
+    ensures { GivesTable recursion_limit result (spec.parse_document s.now) }
+{
     let mut keys = Keys::new(alloc)?;
     let mut section = 0;
     let mut rest = skip_bom(s);
@@ -39,7 +49,11 @@ pub fn read(alloc: Global, s: &str) -> Result<Option<Keys<'_>>, std::alloc::Allo
     }
 }
 
-fn skip_bom(s: &str) -> &str {
+#[tactic(auto, unfolding(toml::specs::Parse::skip_bom))]
+fn skip_bom(s: &str) -> &str
+    ensures rest { result.now ≡ spec.skip_bom s.now }
+    ensures within { length result.now ≤ length s.now }
+{
     if first(s) == 0xEF && byte_at(s, 1) == 0xBB && byte_at(s, 2) == 0xBF {
         &s[3..]
     } else {
@@ -48,18 +62,30 @@ fn skip_bom(s: &str) -> &str {
 }
 
 // Gives the table that the next pairs go into.
-fn define<'s>(keys: &mut Keys<'s>, section: u32, key: &Key, what: Definition<'s>) -> Result<u32, ParseError> {
+fn define<'s>(keys: &mut Keys<'s>, section: u32, key: &Key, what: Definition<'s>) -> Result<u32, ParseError>
+    ensures { Defines (row_of keys.old) (row_of keys.new) section (key_view key.now, definition_view what.entry) result }
+{
     match what {
         Definition::Pair(text) => {
             put(keys, section, key, text)?;
             Ok(section)
         }
-        Definition::Table => open_table(keys, key),
-        Definition::Element => open_element(keys, key),
+        Definition::Table => {
+            let table = open_table(keys, key)?;
+            Ok(table)
+        }
+        Definition::Element => {
+            let element = open_element(keys, key)?;
+            Ok(element)
+        }
     }
 }
 
-fn line(alloc: Global, s: &str) -> Result<(Key, Definition<'_>, &str), ParseError> {
+#[tactic(auto, unfolding(toml::specs::Parse::line))]
+fn line(alloc: Global, s: &str) -> Result<(Key, Definition<'_>, &str), ParseError>
+    ensures value { ReadsLine result (spec.line s.now) }
+    ensures shorter { IfOk result (λ p. length p.2.now < length s.now) }
+{
     let (key, what, rest) = expression(alloc, s)?;
     let end = skip_ws(rest);
     if end.is_empty() || matches!(first(end), b'#' | b'\n' | b'\r') {
@@ -69,7 +95,10 @@ fn line(alloc: Global, s: &str) -> Result<(Key, Definition<'_>, &str), ParseErro
     }
 }
 
-fn expression(alloc: Global, s: &str) -> Result<(Key, Definition<'_>, &str), ParseError> {
+fn expression(alloc: Global, s: &str) -> Result<(Key, Definition<'_>, &str), ParseError>
+    ensures value { ReadsLine result (spec.expression s.now) }
+    ensures shorter { IfOk result (λ p. length p.2.now < length s.now) }
+{
     if first(s) == b'[' && byte_at(s, 1) == b'[' {
         let (key, rest) = header_key(alloc, skip(s, 2))?;
         if first(rest) != b']' {
@@ -87,7 +116,11 @@ fn expression(alloc: Global, s: &str) -> Result<(Key, Definition<'_>, &str), Par
 }
 
 // The key of a header and its first closing bracket.
-fn header_key(alloc: Global, s: &str) -> Result<(Key, &str), ParseError> {
+#[tactic(auto, unfolding(toml::specs::Parse::header_key))]
+fn header_key(alloc: Global, s: &str) -> Result<(Key, &str), ParseError>
+    ensures value { Reads key_view result (spec.header_key s.now) }
+    ensures shorter { Shortens s.now result }
+{
     let (key, rest) = dotted_key(alloc, skip_ws(s))?;
     if first(rest) != b']' {
         return Err(ParseError::at(ErrorKind::UnclosedTable, rest));
