@@ -8,3 +8,4 @@ pub mod EnterLemmas
 pub mod PathLemmas
 pub mod DefineLemmas
 pub mod LoopLemmas
+pub mod LineLemmas
