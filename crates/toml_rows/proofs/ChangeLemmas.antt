@@ -9,9 +9,9 @@ use Rattle.toml_rows.specs.declared.row.What.{What}
 use Rattle.toml_rows.specs.declared.row.What.TheVariants.{Value, Implicit, Dotted, Header, Tables, Element}
 use Rattle.toml_rows.specs.Search.{none}
 use Rattle.toml_rows.specs.Rows.{is_key, is_open, is_table, is_plain, inside, Row, HasKey, Grows, Sets, Nexts}
-use Rattle.toml_rows.specs.Tables.{IsTree, node_of, done_of, IsTold, Leads, at_root, step}
-use Rattle.toml_rows.proofs.NodeLemmas.{get_node-replace_other, get_node-insert_other}
-use Rattle.toml_rows.proofs.TableLemmas.{put_at, put_at-same, put_at-other, node_same, inside_one, inside_within, inside_after, inside_root, leads_within, Climbed, climb}
+use Rattle.toml_rows.specs.Tables.{IsOrdered, IsTree, node_of, done_of, IsTold, Leads, at_root, step}
+use Rattle.toml_rows.proofs.NodeLemmas.{get_node-replace_other, get_node-insert_other, ordered-insert, ordered-replace}
+use Rattle.toml_rows.proofs.TableLemmas.{put_at-all, put_at, put_at-same, put_at-other, node_same, inside_one, inside_within, inside_after, inside_root, leads_within, Climbed, climb}
 
 -- after a change of the table at the end of a path
 pub record Changed (datum : ℕ → Data) (new : Row) (p : List (List ℕ)) (was is top : Nodes) : Type 0 where
@@ -170,6 +170,7 @@ module _ (old new : Row) (t : ℕ) (k : List ℕ) (w : What) (grows : Grows old 
                       | inl at ↦ plain_tables w b plain (sym grows.what ∙ ap new.what (sym at) ∙ last)
                       | inr other' ↦ let low'' : i < old.count = omega (arith, grows.count) in h.3 i low'' (sym (grows.whats i low'') ∙ last)
                     ],
+                    h.4,
                   )
             ];
         }
@@ -237,6 +238,8 @@ module _ (old new : Row) (t : ℕ) (k : List ℕ) (w : What) (grows : Grows old 
                       ∙ told.gone s l (λ i has. none_there i (newer i s l has))
                 ]
               ];
+            sorted = put_at-all IsOrdered t (insert k new_node (f t)) g (ordered-insert k new_node (f t) (told.sorted t))
+                (put_at-all IsOrdered old.count no_nodes f tt told.sorted);
             done = λ e b low is. elim (cases_eq e old.count) [
                 | inl at ↦ absurd (key_element w b (plain_key w plain) (sym grows.what ∙ ap new.what (sym at) ∙ is))
                 | inr other ↦
@@ -342,7 +345,7 @@ module _ (old new : Row) (at t : ℕ) (k : List ℕ) (w : What) (sets : Sets old
             let h = tree.before e b low' (set_same e (Element b) refl low' e_is) some in
             let there = h.0 in
             (omega (arith, sets.count), set_key b h.0 ∙ h.1, h.2, λ i small last.
-              let low'' : i < old.count = omega (arith, sets.count) in h.3 i low'' (set_same i (Tables b) refl low'' last));
+              let low'' : i < old.count = omega (arith, sets.count) in h.3 i low'' (set_same i (Tables b) refl low'' last), h.4);
       }
 
     module _ (datum : ℕ → Data) (f : ℕ → Nodes) (d : ℕ → Items) (told : IsTold datum old f f d) where
@@ -385,6 +388,7 @@ module _ (old new : Row) (at t : ℕ) (k : List ℕ) (w : What) (sets : Sets old
                   ap (get_node l) (put_at-other t (replace k (node_of datum f d at w) (f t)) f s elsewhere)
                   ∙ told.gone s l (λ i has. none_there i (set_newer i s l has))
             ];
+          sorted = put_at-all IsOrdered t (replace k (node_of datum f d at w) (f t)) f (ordered-replace k (node_of datum f d at w) (f t) (told.sorted t)) told.sorted;
           done = λ e b low e_is.
               let low' : e < old.count = omega (arith, sets.count) in
               told.done e b low' (set_same e (Element b) refl low' e_is);
@@ -496,6 +500,7 @@ module _ (old new : Row) (at t : ℕ) (k : List ℕ) (b : ℕ) (nexts : Nexts ol
                     | inl there' ↦ let e' = there'.1 in absurd (omega arith)
                     | inr other ↦ other.0 (sym (tree.last i c other.1 other.2).2 ∙ h.2)
                   ],
+                  let at_end = here.0 in omega arith,
                 )
             | inr other ↦
                 let h = tree.before e c other.0 other.1 some in
@@ -508,6 +513,7 @@ module _ (old new : Row) (at t : ℕ) (k : List ℕ) (b : ℕ) (nexts : Nexts ol
                     | inl there' ↦ let e' = there'.1 in absurd (omega arith)
                     | inr more ↦ h.3 i more.1 more.2
                   ],
+                  h.4,
                 )
           ];
       }
@@ -586,6 +592,8 @@ module _ (old new : Row) (at t : ℕ) (k : List ℕ) (b : ℕ) (nexts : Nexts ol
                     ∙ told.gone s l (λ i has. none_there i (next_newer i s l has))
               ]
             ];
+          sorted = put_at-all IsOrdered t (replace k next_node (f t)) next_inner (ordered-replace k next_node (f t) (told.sorted t))
+              (put_at-all IsOrdered old.count no_nodes f tt told.sorted);
           done = λ e c low is. elim (next_element e c low is) [
               | inl here ↦
                   put_at-same old.count (done_of datum f d b) d e here.0

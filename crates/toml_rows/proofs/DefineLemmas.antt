@@ -54,6 +54,7 @@ module _ (old : Row) (text : List ℕ) where
         told = record {
           there = λ i t k has. told.there i t k (without_key i t k has) ∙ ap Some (nodes i (old.what i) has.within refl);
           gone = λ t k nothing. told.gone t k (λ i has. nothing i (with_key i t k has));
+          sorted = told.sorted;
           done = told.done;
         };
         found = holds.found;

@@ -9,3 +9,4 @@ pub mod PathLemmas
 pub mod DefineLemmas
 pub mod LoopLemmas
 pub mod LineLemmas
+pub mod WalkLemmas

@@ -35,6 +35,7 @@ holds_empty depth row empty =
       told = record {
         there = λ i t k has. absurd (no_key i t k has);
         gone = λ t k nothing. refl;
+        sorted = λ t. tt;
         done = λ e b low is. let same : b ≡ none = (let both : Element b ≡ Element none = sym is ∙ what e low in cc) in
             ap (done_of (datum_of depth row.values) (λ i. no_nodes) (λ i. no_items)) (sym same);
       };

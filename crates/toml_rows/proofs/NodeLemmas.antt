@@ -8,6 +8,9 @@ use Rattle.std.specs.Ordering.{match_ordering}
 use Rattle.toml.specs.Data.{same_key}
 use Rattle.toml.specs.Tables.{Node, Nodes, no_nodes, node, get_node, insert, replace}
 use Rattle.toml.proofs.NodeLaws.{same_key-self}
+use Rattle.std.proofs.lemmas.Cmp.{nat_list_cmp_total}
+use Rattle.std.specs.Ordering.{ordering_reverse}
+use Rattle.toml_rows.specs.Tables.{order, AreAfter, IsOrdered}
 
 -- keys with the same bytes are one
 pub same_key-is : (k l : List ℕ) → same_key k l ≡ true → k ≡ l
@@ -47,3 +50,46 @@ pub get_node-insert_other : (k l : List ℕ) (x : Node) (ns : Nodes) → ¬ (l �
 get_node-insert_other k l x no_nodes other = let apart = same_key-not l k other in rw apart
 get_node-insert_other k l x (node m y ns) other =
     by_order (slice_cmp nat_cmp k m) l k m x y ns refl other (get_node-insert_other k l x ns other)
+
+-- ---- the order of keys
+
+after_earlier : (name k : List ℕ) (ns : Nodes) → order name k ≡ Less → AreAfter k ns → AreAfter name ns
+after_earlier name k no_nodes less after = tt
+after_earlier name k (node l x ns) less after = (nat_list_cmp_total.trans name k l less after.0, after_earlier name k ns less after.1)
+
+order_back : (a b : List ℕ) → order a b ≡ Greater → order b a ≡ Less
+order_back a b is = nat_list_cmp_total.antisymm b a ∙ ap ordering_reverse is
+
+after_insert : (name k : List ℕ) (x : Node) (ns : Nodes) → order name k ≡ Less → AreAfter name ns → AreAfter name (insert k x ns)
+after_insert name k x no_nodes less after = (less, tt)
+after_insert name k x (node l y ns) less after = go (order k l) (after_insert name k x ns less after.1)
+  where
+    go : (o : Ordering) → AreAfter name (insert k x ns) → AreAfter name (match_ordering o (node k x (node l y ns)) (node l x ns) (node l y (insert k x ns)))
+    go Less more = (less, after)
+    go Equal more = after
+    go Greater more = (after.0, more)
+
+pub ordered-insert : (k : List ℕ) (x : Node) (ns : Nodes) → IsOrdered ns → IsOrdered (insert k x ns)
+ordered-insert k x no_nodes all = (tt, tt)
+ordered-insert k x (node l y ns) all = go (order k l) refl (ordered-insert k x ns all.1)
+  where
+    go : (o : Ordering) → order k l ≡ o → IsOrdered (insert k x ns) → IsOrdered (match_ordering o (node k x (node l y ns)) (node l x ns) (node l y (insert k x ns)))
+    go Less is more = ((is, after_earlier k l ns is all.0), all)
+    go Equal is more = all
+    go Greater is more = (after_insert l k x ns (order_back k l is) all.0, more)
+
+after_replace : (name k : List ℕ) (x : Node) (ns : Nodes) → AreAfter name ns → AreAfter name (replace k x ns)
+after_replace name k x no_nodes after = tt
+after_replace name k x (node l y ns) after = go (same_key k l) (after_replace name k x ns after.1)
+  where
+    go : (b : Bool) → AreAfter name (replace k x ns) → AreAfter name (cond b (node l x ns) (node l y (replace k x ns)))
+    go true more = after
+    go false more = (after.0, more)
+
+pub ordered-replace : (k : List ℕ) (x : Node) (ns : Nodes) → IsOrdered ns → IsOrdered (replace k x ns)
+ordered-replace k x no_nodes all = tt
+ordered-replace k x (node l y ns) all = go (same_key k l) (ordered-replace k x ns all.1)
+  where
+    go : (b : Bool) → IsOrdered (replace k x ns) → IsOrdered (cond b (node l x ns) (node l y (replace k x ns)))
+    go true more = all
+    go false more = (after_replace l k x ns all.0, more)

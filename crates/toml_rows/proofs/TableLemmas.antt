@@ -9,8 +9,8 @@ use Rattle.toml_rows.specs.declared.row.What.{What}
 use Rattle.toml_rows.specs.declared.row.What.TheVariants.{Value, Implicit, Dotted, Header, Tables, Element}
 use Rattle.toml_rows.specs.Search.{none}
 use Rattle.toml_rows.specs.Rows.{is_key, is_open, inside, Row, HasKey, Grows, Sets}
-use Rattle.toml_rows.specs.Tables.{IsTree, node_of, done_of, IsTold, Leads, at_root, step}
-use Rattle.toml_rows.proofs.NodeLemmas.{same_or_not, get_node-replace_other, get_node-insert_other}
+use Rattle.toml_rows.specs.Tables.{IsOrdered, IsTree, node_of, done_of, IsTold, Leads, at_root, step}
+use Rattle.toml_rows.proofs.NodeLemmas.{same_or_not, get_node-replace_other, get_node-insert_other, ordered-replace}
 
 -- a function with another answer at one place
 abbrev pub put_at : {X : Type 0} → ℕ → X → (ℕ → X) → ℕ → X
@@ -21,6 +21,13 @@ put_at-same at x f i is = let e : (i == at) ≡ true = grind (arith, nat_tests) 
 
 pub put_at-other : {X : Type 0} (at : ℕ) (x : X) (f : ℕ → X) (i : ℕ) → ¬ (i ≡ at) → put_at at x f i ≡ f i
 put_at-other at x f i other = let e : (i == at) ≡ false = grind (arith, nat_tests) in rw e
+
+-- a fact of each answer
+pub put_at-all : {X : Type 0} (P : X → Type 0) (at : ℕ) (x : X) (f : ℕ → X) → P x → ((i : ℕ) → P (f i)) → (i : ℕ) → P (put_at at x f i)
+put_at-all P at x f here all i = elim (cases_eq i at) [
+    | inl same ↦ subst P (sym (put_at-same at x f i same)) here
+    | inr other ↦ subst P (sym (put_at-other at x f i other)) (all i)
+  ]
 
 pub key_if_open : (w : What) → is_open w ≡ true → is_key w ≡ true
 key_if_open (Value v) h = refl
@@ -205,6 +212,7 @@ module _ (datum : ℕ → Data) (row : Row) (tree : IsTree row) (d : ℕ → Ite
                 ap (get_node l) e ∙ get_node-replace_other k l node (f t) names ∙ told.gone t l none_t
             | inr elsewhere ↦ ap (get_node l) (put_at-other t (replace k node (f t)) f s elsewhere) ∙ told.gone s l none_there
           ];
+        sorted = put_at-all IsOrdered t (replace k node (f t)) f (ordered-replace k node (f t) (told.sorted t)) told.sorted;
         done = λ e b low is. told.done e b low is ∙ done_same g f b (λ some. sym (same b (alive e b low is some)));
       }
 
@@ -218,6 +226,7 @@ module _ (datum : ℕ → Data) (row : Row) (tree : IsTree row) (d : ℕ → Ite
           there = λ j s l has. told.there j s l has
               ∙ ap Some (node_same datum g f d j (row.what j) (sym (same (inside j (row.what j)) (inside_root row tree j has.within has.key))));
           gone = told.gone;
+          sorted = told.sorted;
           done = λ e b low is. told.done e b low is ∙ done_same g f b (λ some. sym (same b (not_done row tree at_root e b low is some)));
         };
         edits = λ edit h. h;

@@ -21,22 +21,22 @@ use Rattle.toml_rows.specs.Reading.{data_at, Holds}
 abbrev pub rest_of : {A : Type 0} → Read A → Option (List ℕ)
 rest_of read = option_map (λ p. p.1) read
 
--- the row stands for these members, with values at most this deep
-pub record IsTable (depth : ℕ) (row : Row) (ms : Members) : Type 0 where
+-- a table of the row has these members, with values at most this deep
+pub record IsTable (depth : ℕ) (row : Row) (t : ℕ) (ms : Members) : Type 0 where
   pub tables : ℕ → Nodes
   pub elements : ℕ → Items
   pub holds : Holds depth row tables elements
-  pub members : close (tables 0) ≡ ms
+  pub members : close (tables t) ≡ ms
 
 -- a row and the text after it, unless memory ran out
 abbrev pub ReadsTable : ℕ → Result (Keys × Bor (List ℕ)) ParseError → Read Members → Type 0
 ReadsTable depth r expected =
-    MatchResult r (λ p. (ms : Members) × IsTable depth (row_of p.0) ms × (expected ≡ Some (ms, p.1.now)))
+    MatchResult r (λ p. (ms : Members) × IsTable depth (row_of p.0) 0 ms × (expected ≡ Some (ms, p.1.now)))
     (λ e. ¬ (e ≡ OutOfMemory) → expected ≡ None)
 
 abbrev pub GivesTable : ℕ → Result Keys ParseError → Option Members → Type 0
 GivesTable depth r expected =
-    MatchResult r (λ keys. (ms : Members) × IsTable depth (row_of keys) ms × (expected ≡ Some ms))
+    MatchResult r (λ keys. (ms : Members) × IsTable depth (row_of keys) 0 ms × (expected ≡ Some ms))
     (λ e. ¬ (e ≡ OutOfMemory) → expected ≡ None)
 
 -- what stands on a line

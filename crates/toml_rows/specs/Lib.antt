@@ -4,3 +4,4 @@ pub mod Rows
 pub mod Tables
 pub mod Reading
 pub mod Documents
+pub mod Walking

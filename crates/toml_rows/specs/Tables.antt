@@ -1,11 +1,29 @@
 -- The tables that a row of parts stands for.
 use Rattle.std.specs.Prelude.{◌≡◌, ℕ, ◌<◌, ◌≤◌, ◌==◌, Bool, true, false, if◌then◌else◌, List, [], ◌∷◌, ◌++◌, Option, Some, None}
+use Rattle.std.specs.Ordering.{nat_cmp}
+use Rattle.std.specs.declared.cmp.Ordering.{Ordering}
+use Rattle.std.specs.declared.cmp.Ordering.TheVariants.{Less}
+use Rattle.std.specs.Cmp.Lexicographic.{slice_cmp}
 use Rattle.toml.specs.Data.{Data, boolean, table, Items, no_items, push_item}
-use Rattle.toml.specs.Tables.{Node, Nodes, value, open_table, open_array, implicit, dotted, header, get_node, close}
+use Rattle.toml.specs.Tables.{Node, Nodes, no_nodes, node, value, open_table, open_array, implicit, dotted, header, get_node, close}
 use Rattle.toml_rows.specs.declared.row.What.{What}
 use Rattle.toml_rows.specs.declared.row.What.TheVariants.{Value, Implicit, Dotted, Header, Tables, Element}
 use Rattle.toml_rows.specs.Search.{none}
 use Rattle.toml_rows.specs.Rows.{is_key, is_open, inside, Row, HasKey}
+
+-- the order of names, by their bytes
+abbrev pub order : List ℕ → List ℕ → Ordering
+order = slice_cmp nat_cmp
+
+-- all keys come after this name
+abbrev pub AreAfter : List ℕ → Nodes → Type 0
+AreAfter name no_nodes = Unit {0}
+AreAfter name (node k x ns) = (order name k ≡ Less) × AreAfter name ns
+
+-- the keys are in order
+abbrev pub IsOrdered : Nodes → Type 0
+IsOrdered no_nodes = Unit {0}
+IsOrdered (node k x ns) = AreAfter k ns × IsOrdered ns
 
 -- the parts have the form of a document
 pub record IsTree (row : Row) : Type 0 where
@@ -20,7 +38,7 @@ pub record IsTree (row : Row) : Type 0 where
       → (l < row.count) × (is_key (row.what l) ≡ false) × (row.table l ≡ i) × (i < l)
   pub before : (e b : ℕ) → e < row.count → row.what e ≡ Element b → ¬ (b ≡ none)
       → (b < row.count) × (is_key (row.what b) ≡ false) × (¬ (b ≡ 0))
-      × ((i : ℕ) → i < row.count → row.what i ≡ Tables b → ⊥)
+      × ((i : ℕ) → i < row.count → row.what i ≡ Tables b → ⊥) × (b < e)
 
 module _ (datum : ℕ → Data) (tables : ℕ → Nodes) (elements : ℕ → Items) where
   -- what a key holds, given the values, the tables, and the elements before each element of an array
@@ -40,6 +58,7 @@ module _ (datum : ℕ → Data) (tables : ℕ → Nodes) (elements : ℕ → Ite
 pub record IsTold (datum : ℕ → Data) (row : Row) (tables inner : ℕ → Nodes) (elements : ℕ → Items) : Type 0 where
   pub there : (i t : ℕ) (k : List ℕ) → HasKey row i t k → get_node k (tables t) ≡ Some (node_of datum inner elements i (row.what i))
   pub gone : (t : ℕ) (k : List ℕ) → ((i : ℕ) → ¬ HasKey row i t k) → get_node k (tables t) ≡ None
+  pub sorted : (t : ℕ) → IsOrdered (tables t)
   pub done : (e b : ℕ) → e < row.count → row.what e ≡ Element b → elements e ≡ done_of datum inner elements b
 
 -- a path of names leads from the root to a table, as headers go

@@ -8,10 +8,12 @@ mod reading;
 mod row;
 mod tables;
 mod values;
+mod walk;
 
 pub use arrays::elements;
 pub use keys::Keys;
 pub use names::Names;
 pub use reading::{Definition, document, read};
 pub use row::{Part, Seat, What};
+pub use walk::Found;
 pub use values::inline_table;
