@@ -10,3 +10,4 @@ pub mod DefineLemmas
 pub mod LoopLemmas
 pub mod LineLemmas
 pub mod WalkLemmas
+pub mod DataLemmas

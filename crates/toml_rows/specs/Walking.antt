@@ -1,16 +1,21 @@
 -- What the calls that walk over a row find, in the data of the document.
-use Rattle.std.specs.Prelude.{◌≡◌, ℕ, ◌-◌, ◌<◌, List, [], ◌∷◌, map, get_or, Bool, true, false, if◌then◌else◌, Option, Some, None, MatchOption}
+use Rattle.std.specs.Prelude.{◌≡◌, ℕ, ◌-◌, ◌<◌, List, [], ◌∷◌, map, get_or, Bool, true, false, if◌then◌else◌, Option, Some, None, option_map, Result, MatchResult, Vec}
 use Rattle.std.specs.Borrow.{Bor}
 use Rattle.std.specs.List.{list_any}
 use Rattle.std.specs.Str.{bytes_eq}
 use Rattle.std.specs.declared.cmp.Ordering.TheVariants.{Less}
-use Rattle.toml.specs.Data.{Data, table, array, Items, no_items, item, push_item, Members, no_members, member}
+use Rattle.toml.specs.Data.{Data, as_table, as_array, table, array, Items, no_items, item, push_item, Members, no_members, member}
 use Rattle.toml.specs.Tables.{Nodes, close}
 use Rattle.toml_rows.specs.declared.row.What.{What}
 use Rattle.toml_rows.specs.declared.row.What.TheVariants.{Value, Tables}
+use Rattle.std.specs.declared.alloc.Global.{Global}
+use Rattle.toml_parser.specs.declared.error.ParseError.{ParseError}
+use Rattle.toml_parser.specs.declared.error.ParseError.TheVariants.{OutOfMemory}
+use Rattle.toml_parser.specs.Lexical.{Read}
+use Rattle.toml_rows.specs.declared.keys.Keys.{Keys}
 use Rattle.toml_rows.specs.declared.walk.Found.{Found}
 use Rattle.toml_rows.specs.declared.walk.Found.TheVariants as found
-use Rattle.toml_rows.specs.Rows.{is_key, is_table, Row, HasKey}
+use Rattle.toml_rows.specs.Rows.{is_key, is_table, Row, row_of, HasKey}
 use Rattle.toml_rows.specs.Tables.{order}
 use Rattle.toml_rows.specs.Reading.{data_at, Holds}
 use Rattle.toml_rows.specs.Documents.{IsTable}
@@ -70,3 +75,32 @@ SeenAs row i w None = is_key w ≡ false
 SeenAs row i w (Some (found.Value text)) = (v : ℕ) × (w ≡ Value v) × (text.now ≡ get_or row.values v [])
 SeenAs row i w (Some (found.Table t)) = (t ≡ i) × (is_table w ≡ true)
 SeenAs row i w (Some (found.Tables last)) = w ≡ Tables last
+
+-- the inline table that a text begins with
+abbrev pub IsInline : ℕ → List ℕ → Option Keys → Type 0
+IsInline depth text None = as_table (data_at depth text) ≡ None
+IsInline depth text (Some keys) = (ms : Members) × IsTable (depth - 1) (row_of keys) 0 ms × (as_table (data_at depth text) ≡ Some ms)
+
+-- the data of each text
+abbrev pub data_of_all : ℕ → List (Bor (List ℕ)) → List Data
+data_of_all depth texts = map (λ (text : Bor (List ℕ)). data_at depth text.now) texts
+
+-- the elements of the array that a text begins with
+abbrev pub IsList : ℕ → List ℕ → Option (Vec (Bor (List ℕ)) Global) → Type 0
+IsList depth text None = as_array (data_at depth text) ≡ None
+IsList depth text (Some texts) = as_array (data_at depth text) ≡ Some (items_of (data_of_all (depth - 1) texts.items))
+
+-- the elements up to the end of an array
+abbrev pub ReadsItems : ℕ → Result (Vec (Bor (List ℕ)) Global) ParseError → Read Items → Type 0
+ReadsItems depth r expected =
+    MatchResult r (λ texts. option_map (λ p. p.0) expected ≡ Some (items_of (data_of_all depth texts.items)))
+    (λ e. ¬ (e ≡ OutOfMemory) → expected ≡ None)
+
+-- the tables of these numbers
+abbrev pub tables_of : (ℕ → Nodes) → List ℕ → List Data
+tables_of tables ts = map (λ t. table (close (tables t))) ts
+
+-- an array of tables by headers has these elements, in their order
+abbrev pub AreElements : ℕ → Row → List ℕ → Items → Type 0
+AreElements depth row ts ds =
+    (tables : ℕ → Nodes) × (elements : ℕ → Items) × Holds depth row tables elements × (ds ≡ items_of (tables_of tables ts))

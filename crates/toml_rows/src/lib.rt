@@ -1,7 +1,7 @@
 //! Reads a document of TOML into rows: a few bytes for each part of a key, and no map for each table.
 #![tactic(auto)]
 
-mod arrays;
+mod data;
 mod keys;
 mod names;
 mod reading;
@@ -10,10 +10,10 @@ mod tables;
 mod values;
 mod walk;
 
-pub use arrays::elements;
+pub use data::{elements, inline, integer, string};
 pub use keys::Keys;
 pub use names::Names;
 pub use reading::{Definition, document, read};
 pub use row::{Part, Seat, What};
-pub use walk::Found;
 pub use values::inline_table;
+pub use walk::Found;
