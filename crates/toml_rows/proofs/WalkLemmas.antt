@@ -1,9 +1,11 @@
 -- What a row has at a name, in the data of the document.
-use Rattle.std.proofs.Common.{◌≡◌, ℕ, ◌+◌, ◌<◌, ◌≤◌, ◌==◌, Bool, true, false, cond, List, [], ◌∷◌, ◌++◌, length, get_or, Option, Some, None, option_map, Ordering, Less, Equal, Greater, nat_cmp, is_eq, refl, sym, ap, ap₂, ◌∙◌, subst, arith, inl, inr, ◌⊎◌}
+use Rattle.std.proofs.Common.{◌≡◌, ℕ, ◌+◌, ◌<◌, ◌≤◌, ◌==◌, Bool, true, false, cond, List, [], ◌∷◌, ◌++◌, length, get_or, reverse, Option, Some, None, option_map, Ordering, Less, Equal, Greater, nat_cmp, is_eq, refl, sym, ap, ap₂, ◌∙◌, subst, arith, inl, inr, ◌⊎◌}
 use Rattle.std.specs.Ordering.{match_ordering}
+use Rattle.std.proofs.lemmas.Bool.Decides.{nat_tests}
+use Rattle.std.proofs.lemmas.List.{reverse-append}
 use Rattle.std.specs.Cmp.Lexicographic.{slice_cmp}
 use Rattle.std.specs.Borrow.{Bor}
-use Rattle.toml.specs.Data.{Data, table, array, Items, push_item, Members, no_members, member, same_key, get_member}
+use Rattle.toml.specs.Data.{Data, table, array, Items, no_items, item, push_item, Members, no_members, member, same_key, get_member}
 use Rattle.toml.specs.Tables.{Node, Nodes, no_nodes, node, value, open_table, open_array, implicit, dotted, header, get_node, close, close_node}
 use Rattle.toml_rows.specs.declared.row.What.{What}
 use Rattle.toml_rows.specs.declared.row.What.TheVariants.{Value, Implicit, Dotted, Header, Tables, Element}
@@ -19,7 +21,7 @@ use Rattle.std.proofs.lemmas.Option.{none-some}
 use Rattle.std.proofs.lemmas.Cmp.{nat_list_cmp_total, tied_itself}
 use Rattle.toml.proofs.NodeLaws.{same_key-self}
 use Rattle.toml_rows.specs.Tables.{order, AreAfter, IsOrdered}
-use Rattle.toml_rows.specs.Walking.{IsArray, Says, Finds, SeenAs, first_unknown, IsUnknown, IsLeast}
+use Rattle.toml_rows.specs.Walking.{IsArray, Says, Finds, SeenAs, first_unknown, IsUnknown, IsLeast, IsLeft, items_of, items_onto, tables_of}
 use Rattle.toml_rows.proofs.NodeLemmas.{same_key-is, same_key-not}
 
 -- a name among the members
@@ -179,3 +181,78 @@ module _ (known : List ℕ → Bool) where
           | inl same ↦ λ less. later (ap (λ n. order n (row.name i)) (ap row.name (sym same)) ∙ less)
           | inr apart ↦ h.2 j (omega arith) u
         ])
+
+-- ---- the elements of an array of tables
+
+element_of : (w : What) → is_key w ≡ false → (b : ℕ) × (w ≡ Element b)
+element_of (Value v) h = absurd cc
+element_of Implicit h = absurd cc
+element_of Dotted h = absurd cc
+element_of Header h = absurd cc
+element_of (Tables l) h = absurd cc
+element_of (Element b) h = (b, refl)
+
+items_after : (d : Data) (ds : Items) (es : List Data) → items_onto (item d ds) es ≡ item d (items_onto ds es)
+items_after d ds [] = refl
+items_after d ds (e ∷ es) = items_after d (push_item ds e) es
+
+items_from_none : (ds : List Data) → items_onto no_items ds ≡ items_of ds
+items_from_none [] = refl
+items_from_none (d ∷ ds) = items_after d no_items ds ∙ ap (item d) (items_from_none ds)
+
+done_some : (datum : ℕ → Data) (f : ℕ → Nodes) (d : ℕ → Items) (b : ℕ) → ¬ (b ≡ none) → done_of datum f d b ≡ push_item (d b) (table (close (f b)))
+done_some datum f d b some = let e : (b == none) ≡ false = grind (arith, nat_tests) in rw e
+
+done_none : (datum : ℕ → Data) (f : ℕ → Nodes) (d : ℕ → Items) (b : ℕ) → b ≡ none → done_of datum f d b ≡ no_items
+done_none datum f d b is = let e : (b == none) ≡ true = grind (arith, nat_tests) in rw e
+
+pub left_first : (depth : ℕ) (row : Row) (last : ℕ) (ds : Items) (is : IsArray depth row last ds) → IsLeft depth row is.tables is.elements ds [] last 0
+left_first depth row last ds is =
+    let h = is.holds in
+    let tree = h.tree in
+    let l = tree.last is.owner last is.within is.owns in
+    let small = tree.small in
+    let low = l.0 in
+    record {
+      near = λ some. (l.0, l.1, omega arith);
+      whole = sym is.items ∙ sym (done_some (datum_of depth row.values) is.tables is.elements last (λ n. absurd (omega arith)));
+    }
+
+module _ (depth : ℕ) (row : Row) (f : ℕ → Nodes) (d : ℕ → Items) (ds : Items) (ts : List ℕ) (at turn : ℕ) (left : IsLeft depth row f d ds ts at turn) where
+  pub left_none : at ≡ none → IsLeft depth row f d ds ts none (turn + 1)
+  left_none is = record {
+      near = λ some. absurd (some refl);
+      whole = left.whole ∙ ap (λ b. items_onto (done_of (datum_of depth row.values) f d b) (tables_of f (reverse ts))) is;
+    }
+
+  pub left_more : Holds depth row f d → ¬ (at ≡ none) → (next : ℕ) → ((b : ℕ) → row.what at ≡ Element b → next ≡ b) → (new : List ℕ) → new ≡ ts ++ at ∷ []
+      → IsLeft depth row f d ds new next (turn + 1)
+  left_more holds some next is new pushed =
+      let tree = holds.tree in
+      let told = holds.told in
+      let n = left.near some in
+      let e = element_of (row.what at) n.1 in
+      let b = e.0 in
+      let same : next ≡ b = is b e.1 in
+      let room = n.2 in
+      let datum = datum_of depth row.values in
+      let turned : tables_of f (reverse new) ≡ table (close (f at)) ∷ tables_of f (reverse ts) =
+          ap (λ xs. tables_of f (reverse xs)) pushed ∙ ap (tables_of f) (reverse-append ts (at ∷ [])) in
+      record {
+        near = λ go.
+            let h = tree.before at b n.0 e.1 (λ z. go (same ∙ z)) in
+            let low = h.0 in
+            let less = h.4 in
+            (omega arith, ap (λ m. is_key (row.what m)) same ∙ h.1, omega arith);
+        whole =
+            left.whole
+            ∙ ap (λ x. items_onto x (tables_of f (reverse ts))) (done_some datum f d at some ∙ ap (λ x. push_item x (table (close (f at)))) (told.done at b n.0 e.1))
+            ∙ ap (λ xs. items_onto (done_of datum f d b) xs) (sym turned)
+            ∙ ap (λ m. items_onto (done_of datum f d m) (tables_of f (reverse new))) (sym same);
+      }
+
+  pub left_end : row.count ≤ turn → ds ≡ items_of (tables_of f (reverse ts))
+  left_end end = elim (cases_eq at none) [
+      | inl is ↦ left.whole ∙ ap (λ x. items_onto x (tables_of f (reverse ts))) (done_none (datum_of depth row.values) f d at is) ∙ items_from_none (tables_of f (reverse ts))
+      | inr some ↦ let n = (left.near some).2 in absurd (omega arith)
+    ]

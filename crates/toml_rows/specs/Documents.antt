@@ -10,6 +10,7 @@ use Rattle.toml_parser.specs.Reading.{key_view}
 use Rattle.toml.specs.Data.{Data, Items, Members}
 use Rattle.toml.specs.Tables as spec
 use Rattle.toml.specs.Tables.{Nodes, close, Document, Expression}
+use Rattle.toml.specs.Parse.{parse_document}
 use Rattle.toml_rows.specs.declared.keys.Keys.{Keys}
 use Rattle.toml_rows.specs.declared.reading.Definition.{Definition}
 use Rattle.toml_rows.specs.declared.reading.Definition.TheVariants.{Pair, Table, Element}
@@ -62,3 +63,8 @@ abbrev pub Defines : Row → Row → ℕ → Expression → Result ℕ ParseErro
 Defines old new section e r =
     (tables : ℕ → Nodes) (elements : ℕ → Items) (p : List (List ℕ)) → Holds recursion_limit old tables elements → Leads old p section
     → MatchResult r (λ s. Defined new s (spec.define (tables 0, p) e)) (λ e'. ¬ (e' ≡ OutOfMemory) → spec.define (tables 0, p) e ≡ None)
+
+-- the document that a text is, or none
+abbrev pub IsDocument : List ℕ → Option Keys → Type 0
+IsDocument text None = parse_document text ≡ None
+IsDocument text (Some keys) = (ms : Members) × IsTable recursion_limit (row_of keys) 0 ms × (parse_document text ≡ Some ms)

@@ -1,5 +1,5 @@
 -- What the calls that walk over a row find, in the data of the document.
-use Rattle.std.specs.Prelude.{◌≡◌, ℕ, ◌-◌, ◌<◌, List, [], ◌∷◌, map, get_or, Bool, true, false, if◌then◌else◌, Option, Some, None, option_map, Result, MatchResult, Vec}
+use Rattle.std.specs.Prelude.{◌≡◌, ℕ, ◌+◌, ◌-◌, ◌<◌, List, [], ◌∷◌, map, reverse, get_or, Bool, true, false, if◌then◌else◌, Option, Some, None, option_map, Result, MatchResult, Vec}
 use Rattle.std.specs.Borrow.{Bor}
 use Rattle.std.specs.List.{list_any}
 use Rattle.std.specs.Str.{bytes_eq}
@@ -15,9 +15,10 @@ use Rattle.toml_parser.specs.Lexical.{Read}
 use Rattle.toml_rows.specs.declared.keys.Keys.{Keys}
 use Rattle.toml_rows.specs.declared.walk.Found.{Found}
 use Rattle.toml_rows.specs.declared.walk.Found.TheVariants as found
+use Rattle.toml_rows.specs.Search.{none}
 use Rattle.toml_rows.specs.Rows.{is_key, is_table, Row, row_of, HasKey}
-use Rattle.toml_rows.specs.Tables.{order}
-use Rattle.toml_rows.specs.Reading.{data_at, Holds}
+use Rattle.toml_rows.specs.Tables.{order, done_of}
+use Rattle.toml_rows.specs.Reading.{data_at, datum_of, Holds}
 use Rattle.toml_rows.specs.Documents.{IsTable}
 
 -- an array of tables of the row, by its last element, has these items
@@ -104,3 +105,13 @@ tables_of tables ts = map (λ t. table (close (tables t))) ts
 abbrev pub AreElements : ℕ → Row → List ℕ → Items → Type 0
 AreElements depth row ts ds =
     (tables : ℕ → Nodes) × (elements : ℕ → Items) × Holds depth row tables elements × (ds ≡ items_of (tables_of tables ts))
+
+-- the items, and these after them
+abbrev pub items_onto : Items → List Data → Items
+items_onto base [] = base
+items_onto base (d ∷ ds) = items_onto (push_item base d) ds
+
+-- the elements found so far, the last one first, and the one before them
+pub record IsLeft (depth : ℕ) (row : Row) (tables : ℕ → Nodes) (elements : ℕ → Items) (ds : Items) (ts : List ℕ) (at turn : ℕ) : Type 0 where
+  pub near : ¬ (at ≡ none) → (at < row.count) × (is_key (row.what at) ≡ false) × (at + turn < row.count)
+  pub whole : ds ≡ items_onto (done_of (datum_of depth row.values) tables elements at) (tables_of tables (reverse ts))

@@ -1,16 +1,15 @@
 // Documents.
-ghost use Rattle.std.specs.Prelude.{◌≡◌, ℕ, ◌<◌, ◌≤◌, length, IfOk, MatchResult, MatchOption, None, Some};
+ghost use Rattle.std.specs.Prelude.{◌≡◌, ◌<◌, ◌≤◌, length, IfOk};
 ghost use Rattle.toml_parser.specs.Strings.{recursion_limit};
 ghost use Rattle.toml_parser.specs.Reading.{Reads, Shortens, key_view};
-ghost use Rattle.toml.specs.Data.{Members};
 ghost use Rattle.toml.specs.Parse as spec;
 ghost use Rattle.toml_rows.specs.Rows.{row_of};
-ghost use Rattle.toml_rows.specs.Documents.{IsTable, GivesTable, ReadsLine, Defines, definition_view};
+ghost use Rattle.toml_rows.specs.Documents.{IsDocument, GivesTable, ReadsLine, Defines, definition_view};
 
 use crate::keys::Keys;
 use crate::tables::{open_element, open_table, put};
 use crate::values::{key_equals, value};
-use std::alloc::Global;
+use std::alloc::{AllocError, Global};
 use toml_parser::text::{byte_at, first, skip, skip_blank, skip_ws};
 use toml_parser::{ErrorKind, Key, ParseError, RECURSION_LIMIT, dotted_key};
 
@@ -41,11 +40,15 @@ pub fn document(alloc: Global, s: &str) -> Result<Keys<'_>, ParseError>
 }
 
 /// Reads a document; None if the text is none.
-pub fn read(alloc: Global, s: &str) -> Result<Option<Keys<'_>>, std::alloc::AllocError> {
+pub fn read(alloc: Global, s: &str) -> Result<Option<Keys<'_>>, AllocError>
+    ensures { IfOk result (λ found. IsDocument s.now found) }
+{
     match document(alloc, s) {
         Ok(keys) => Ok(Some(keys)),
-        Err(ParseError::OutOfMemory) => Err(std::alloc::AllocError),
-        Err(_) => Ok(None),
+        Err(e) => match e {
+            ParseError::OutOfMemory => Err(AllocError),
+            _ => Ok(None),
+        },
     }
 }
 

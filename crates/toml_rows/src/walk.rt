@@ -1,12 +1,15 @@
 // Walking over a row.
-ghost use Rattle.std.specs.Prelude.{◌≡◌, ℕ, ◌+◌, ◌<◌, ◌↔◌, slice_index_or, [], IsTrue, option_map};
-ghost use Rattle.toml.specs.Data.{Members, get_member};
+ghost use Rattle.std.specs.Prelude.{◌≡◌, ℕ, ◌+◌, ◌<◌, ◌↔◌, slice_index_or, [], IsTrue, IfOk, option_map};
+ghost use Rattle.toml.specs.Data.{Items, Members, get_member};
+ghost use Rattle.toml.specs.Tables.{Nodes};
+ghost use Rattle.toml_rows.specs.Reading.{Holds};
 ghost use Rattle.toml_rows.specs.Rows.{is_key, row_of};
 ghost use Rattle.toml_rows.specs.Documents.{IsTable};
-ghost use Rattle.toml_rows.specs.Walking.{Finds, SeenAs, knows, IsUnknown, IsBefore, IsLeast, first_unknown};
+ghost use Rattle.toml_rows.specs.Walking.{IsArray, AreElements, IsLeft, Finds, SeenAs, knows, IsUnknown, IsBefore, IsLeast, first_unknown};
 
 use crate::keys::Keys;
-use crate::row::{Seat, What};
+use crate::row::{NONE, Seat, What};
+use std::alloc::{AllocError, Global};
 use std::cmp::Ordering;
 
 /// What stands at a key.
@@ -88,6 +91,44 @@ impl<'s> Keys<'s> {
                 }
             }
             None => Some(part),
+        }
+    }
+
+    /// Gives the tables of an array of tables, in the order of the text, by the last of them.
+    pub fn elements_of(&self, alloc: Global, last: u32) -> Result<Vec<u32>, AllocError>
+        ensures { IfOk result (λ ts. (depth : ℕ) (ds : Items) → IsArray depth (row_of self.now) last ds
+            → AreElements depth (row_of self.now) ts.items ds) }
+    {
+        let mut found = Vec::new(alloc);
+        let mut at = last;
+        'elements: for _turn in 0..self.parts.len() {
+            at = self.take_element(&mut found, at)?;
+        }
+        found.reverse();
+        Ok(found)
+    }
+
+    // Adds an element, and gives the one before it.
+    fn take_element(&self, found: &mut Vec<u32>, at: u32) -> Result<u32, AllocError>
+        ensures { IfOk result (λ next. (depth : ℕ) (tables : ℕ → Nodes) (elements : ℕ → Items) (ds : Items) (turn : ℕ)
+            → Holds depth (row_of self.now) tables elements
+            → IsLeft depth (row_of self.now) tables elements ds found.old.items at turn
+            → IsLeft depth (row_of self.now) tables elements ds found.new.items next (turn + 1)) }
+    {
+        if at == NONE {
+            return Ok(NONE);
+        }
+        found.push(at)?;
+        Ok(self.before(at))
+    }
+
+    // The element before this one.
+    fn before(&self, part: u32) -> u32
+        ensures { (b : ℕ) → (row_of self.now).what part ≡ What.Element b → result ≡ b }
+    {
+        match self.what(part) {
+            What::Element(before) => before,
+            _ => NONE,
         }
     }
 
