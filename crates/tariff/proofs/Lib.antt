@@ -5,4 +5,5 @@ pub mod PriceLemmas
 pub mod RoomLemmas
 pub mod SixPrices
 pub mod TierLemmas
-pub mod TierReading
+pub mod ValueReading
+pub mod RowReading

@@ -6,6 +6,7 @@ mod charges;
 mod fault;
 mod prices;
 mod read;
+mod tier;
 mod tiers;
 
 pub use boxed::BoxedTariff;

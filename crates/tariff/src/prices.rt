@@ -88,7 +88,7 @@ impl Tariff {
     }
 }
 
-fn are_all_prices(prices: &[u32]) -> bool
+pub(crate) fn are_all_prices(prices: &[u32]) -> bool
     ensures { result ≡ list_all is_price prices.now }
 {
     prices.iter().all(|price| *price <= MOST_PRICE)

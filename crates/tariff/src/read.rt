@@ -1,25 +1,25 @@
 // Reading tariffs from TOML documents.
-ghost use Rattle.std.specs.Prelude.{◌≡◌, length, option_map, option_and_then, ok_or, unwrap_or};
-ghost use Rattle.std.specs.List.{list_any};
-ghost use Rattle.std.specs.Str.{bytes_eq};
-ghost use Rattle.toml.specs.Data.{as_table, get_member};
-ghost use Rattle.toml.specs.View.{view, items_view, table_view};
-ghost use Rattle.class_rules.specs.Classes.{class_name};
-ghost use Rattle.tariff.specs.Faults.{TariffGives, not_toml};
-ghost use Rattle.tariff.specs.Prices.{one_tier};
-ghost use Rattle.tariff.specs.Reading.{document_of, table_name, classes_of, is_field, is_class_name, first_other};
-ghost use Rattle.tariff.specs.Reading.{with_fields, with_classes, from_name, from_of};
-ghost use Rattle.tariff.specs.Reading.{month_said, price_of, price_in, each_of};
-ghost use Rattle.tariff.specs.Reading.{upto_of, end_said, is_tier_name, tier_by, tier_said, tiers_said, in_range};
-ghost use Rattle.tariff.specs.Reading.{tier_among, tiers_of, tiers_in, tariff_of};
+ghost use Rattle.std.specs.Prelude.{◌≡◌, ℕ, length, Option, option_and_then, is_some, unwrap_or, IfOk};
+ghost use Rattle.toml.specs.Data.{Data, Members, no_members, string, as_table, get_member};
+ghost use Rattle.toml_rows.specs.Reading.{data_at};
+ghost use Rattle.toml_rows.specs.Rows.{row_of, Row};
+ghost use Rattle.toml_rows.specs.Documents.{IsTable};
+ghost use Rattle.toml_rows.specs.Walking.{Says, knows, first_unknown};
+ghost use Rattle.tariff.specs.Faults.{TariffGives};
+ghost use Rattle.tariff.specs.Opened.{ReadsDocument, IsOpened, is_there};
+ghost use Rattle.tariff.specs.Reading.{table_name, classes_of, with_fields, with_classes, unless_other, from_name, from_of, month_said, tariff_of};
+ghost use Rattle.tariff.specs.Reading.{price_in, each_of, tiers_in};
+ghost use Rattle.tariff.specs.Opened.{tariff_in};
 
 use crate::fault::{TariffFault, TariffTable, unknown};
-use crate::prices::{MOST_PRICE, Tariff};
-use crate::tiers::{Tier, Tiers, have_ends};
+use crate::prices::{Tariff, are_all_prices};
+use crate::tier::{price_of, tiers_of};
+use crate::tiers::Tiers;
 use class_rules::Class;
 use moments::{Month, read_month};
-use std::alloc::Global;
-use toml::{Table, Value};
+use std::alloc::{AllocError, Global};
+use toml_parser::RECURSION_LIMIT;
+use toml_rows::{Found, Keys, inline, string};
 
 /// The classes of the `storage` table, from the warmest on.
 const STORED_IN: [Class; 6] = [
@@ -30,6 +30,14 @@ const STORED_IN: [Class; 6] = [
     Class::Glacier,
     Class::DeepArchive,
 ];
+
+/// A table of the document: a table of its row, one with a row of its own, or none, with an empty row.
+#[derive(Drop)]
+enum Opened<'s> {
+    Inside(u32),
+    Own(Keys<'s>),
+    Missing(Keys<'s>),
+}
 
 impl Tariff {
     /// Reads a tariff from a TOML document with two tables. `storage` has for each class a price per GiB stored for a
@@ -52,112 +60,155 @@ impl Tariff {
     /// class. `BadTiers` (74): the value in `storage` is a list, but not of one to eight tables with a `price` and,
     /// except for the last, an `upto`. Each `upto` is a whole number from 1 to 2^32 - 1 above the one before it.
     /// `BadPrice` (72): a price is not a whole number from 0 to `MOST_PRICE`. `NoMemory`: memory ran out.
-    #[tactic(auto, unfolding(crate::specs::Reading::tariff_of), using(crate::proofs::PriceLemmas::prices_range))]
     pub fn read(alloc: Global, bytes: &[u8]) -> Result<Tariff, TariffFault>
         ensures exact { TariffGives (λ tariff. tariff) result (tariff_of bytes.now) }
     {
         let document = read_document(alloc, bytes)?;
-        check_fields(alloc, &document)?;
-        let from = read_from(&document)?;
-        let empty = Table::new(alloc);
-        let storage = members(&document, TariffTable::Storage, &empty);
-        let transition = members(&document, TariffTable::Transition, &empty);
-        check_classes(alloc, TariffTable::Storage, storage)?;
-        check_classes(alloc, TariffTable::Transition, transition)?;
-        let stored = read_storage(alloc, storage)?;
-        let mut moved = [0; 5];
-        read_prices(TariffTable::Transition, transition, &mut moved)?;
-        Ok(Tariff {
-            from,
-            storage: stored,
-            transition: moved,
-        })
+        let tariff = read_tariff(alloc, &document)?;
+        Ok(tariff)
     }
 }
 
-fn read_document(alloc: Global, bytes: &[u8]) -> Result<Table, TariffFault>
-    ensures { TariffGives (λ document. table_view document) result (ok_or (document_of bytes.now) not_toml) }
+fn read_document(alloc: Global, bytes: &[u8]) -> Result<Keys<'_>, TariffFault>
+    ensures { ReadsDocument bytes.now result }
 {
-    match toml::table_from_slice(alloc, bytes) {
-        Ok(document) => Ok(document),
-        Err(e) => {
-            if e.is_memory() {
-                Err(TariffFault::NoMemory)
-            } else {
-                Err(TariffFault::NotToml)
-            }
-        }
-    }
-}
-
-// The value of a name in a table.
-fn found<'m>(members: &'m Table, name: &str) -> Option<&'m Value>
-    ensures { option_map (λ value. view value.now) result ≡ get_member name.now (table_view members.now) }
-{
-    members.get(name)
-}
-
-// The members of a table of the document; `empty` if the table is missing.
-fn members<'d>(document: &'d Table, table: TariffTable, empty: &'d Table) -> &'d Table
-    ensures { table_view result.now
-        ≡ unwrap_or (option_and_then as_table (get_member (table_name table) (table_view document.now)))
-        (table_view empty.now) }
-{
-    match found(document, table.name()) {
-        Some(value) => match value.as_table() {
-            Some(members) => members,
-            None => empty,
+    let Ok(text) = std::str::from_utf8(bytes) else {
+        return Err(TariffFault::NotToml);
+    };
+    match toml_rows::read(alloc, text) {
+        Ok(found) => match found {
+            Some(keys) => Ok(keys),
+            None => Err(TariffFault::NotToml),
         },
-        None => empty,
+        Err(_) => Err(TariffFault::NoMemory),
     }
 }
 
-fn is_field(name: &str, value: &Value) -> bool
-    ensures { result ≡ is_field name.now (view value.now) }
+// Opens a table of the document.
+fn open<'s>(alloc: Global, document: &Keys<'s>, name: &str) -> Result<Opened<'s>, AllocError>
+    ensures { IfOk result (λ opened. (ms : Members) → IsTable 80 (row_of document.now) 0 ms
+        → IsOpened (row_of document.now) opened (option_and_then as_table (get_member name.now ms))) }
 {
-    name == "from" || (name == "storage" || name == "transition") && value.is_table()
-}
-
-fn other_field(document: &Table) -> Option<&str>
-    ensures { option_map (λ name. name.now) result ≡ first_other is_field (table_view document.now) }
-{
-    for (name, value) in document {
-        if !is_field(name.as_str(), value) {
-            return Some(name.as_str());
+    match document.get(0, name.as_bytes()) {
+        Some(found) => {
+            let opened = open_found(alloc, found)?;
+            Ok(opened)
+        }
+        None => {
+            let empty = Keys::new(alloc)?;
+            Ok(Opened::Missing(empty))
         }
     }
-    None
 }
 
-// Refuses a field other than the two tables and the first month.
-fn check_fields(alloc: Global, document: &Table) -> Result<(), TariffFault>
-    ensures { TariffGives (λ _. table_view document.now) result (with_fields (table_view document.now)) }
+fn open_found<'s>(alloc: Global, found: Found<'s>) -> Result<Opened<'s>, AllocError>
+    ensures { IfOk result (λ opened. (row : Row) (d : Data) → Says 80 row found.entry d → IsOpened row opened (as_table d)) }
 {
-    match other_field(document) {
-        Some(name) => unknown(alloc, name),
+    match found {
+        Found::Table(table) => Ok(Opened::Inside(table)),
+        Found::Value(text) => match inline(alloc, text, RECURSION_LIMIT)? {
+            Some(keys) => Ok(Opened::Own(keys)),
+            None => {
+                let empty = Keys::new(alloc)?;
+                Ok(Opened::Missing(empty))
+            }
+        },
+        Found::Tables(_) => {
+            let empty = Keys::new(alloc)?;
+            Ok(Opened::Missing(empty))
+        }
+    }
+}
+
+fn is_there(opened: &Opened) -> bool
+    ensures { result ≡ is_there opened.now }
+{
+    match opened {
+        Opened::Missing(_) => false,
+        _ => true,
+    }
+}
+
+// Refuses a name that is none of these.
+fn refuse_unknown(alloc: Global, keys: &Keys, table: u32, known: &[&str]) -> Result<(), TariffFault>
+    ensures { (depth : ℕ) (ms : Members) → IsTable depth (row_of keys.now) table ms
+        → TariffGives (λ _. ms) result (unless_other ms (first_unknown (knows known.now) ms)) }
+{
+    match keys.first_unknown(table, known) {
+        Some(name) => match std::str::from_utf8(name) {
+            Ok(name) => unknown(alloc, name),
+            Err(_) => Err(TariffFault::NoMemory),
+        },
         None => Ok(()),
     }
 }
 
-// The month that a value says.
-fn month_of(value: &Value) -> Option<Month>
-    ensures { result ≡ month_said (view value.now) }
+// Refuses a field other than the two tables and the first month.
+fn check_fields(alloc: Global, document: &Keys, storage: bool, transition: bool) -> Result<(), TariffFault>
+    ensures { (ms : Members) → IsTable 80 (row_of document.now) 0 ms
+        → storage ≡ is_some (option_and_then as_table (get_member (table_name TariffTable.Storage) ms))
+        → transition ≡ is_some (option_and_then as_table (get_member (table_name TariffTable.Transition) ms))
+        → TariffGives (λ _. ms) result (with_fields ms) }
 {
-    match value {
-        Value::String(text) => match read_month(text.as_str()) {
-            Ok(month) => Some(month),
-            Err(_) => None,
-        },
-        _ => None,
+    if storage {
+        if transition {
+            refuse_unknown(alloc, document, 0, &["from", "storage", "transition"])
+        } else {
+            refuse_unknown(alloc, document, 0, &["from", "storage"])
+        }
+    } else if transition {
+        refuse_unknown(alloc, document, 0, &["from", "transition"])
+    } else {
+        refuse_unknown(alloc, document, 0, &["from"])
+    }
+}
+
+// Refuses a name other than those of the table's classes.
+fn check_classes(alloc: Global, table: TariffTable, keys: &Keys, number: u32) -> Result<(), TariffFault>
+    ensures { (depth : ℕ) (ms : Members) → IsTable depth (row_of keys.now) number ms
+        → TariffGives (λ _. ms) result (with_classes table ms) }
+{
+    match table {
+        TariffTable::Storage => refuse_unknown(alloc, keys, number, &["STANDARD", "STANDARD_IA", "ONEZONE_IA", "GLACIER_IR", "GLACIER", "DEEP_ARCHIVE"]),
+        TariffTable::Transition => refuse_unknown(alloc, keys, number, &["STANDARD_IA", "ONEZONE_IA", "GLACIER_IR", "GLACIER", "DEEP_ARCHIVE"]),
+    }
+}
+
+// The month that a value says.
+fn month_of(alloc: Global, found: Found) -> Result<Option<Month>, AllocError>
+    ensures { IfOk result (λ month. (depth : ℕ) (row : Row) (d : Data) → Says depth row found.entry d → month ≡ month_said d) }
+{
+    match found {
+        Found::Value(text) => month_in(alloc, text),
+        _ => Ok(None),
+    }
+}
+
+fn month_in(alloc: Global, text: &str) -> Result<Option<Month>, AllocError>
+    ensures { IfOk result (λ month. (depth : ℕ) → month ≡ month_said (data_at depth text.now)) }
+{
+    match string(alloc, text)? {
+        Some(text) => Ok(month_of_text(text.as_str())),
+        None => Ok(None),
+    }
+}
+
+fn month_of_text(text: &str) -> Option<Month>
+    ensures { result ≡ month_said (string text.now) }
+{
+    match read_month(text) {
+        Ok(month) => Some(month),
+        Err(_) => None,
     }
 }
 
 // The first month.
-fn read_from(document: &Table) -> Result<Month, TariffFault>
-    ensures { TariffGives (λ month. month) result (from_of (get_member from_name (table_view document.now))) }
+fn read_from(alloc: Global, document: &Keys) -> Result<Month, TariffFault>
+    ensures { (ms : Members) → IsTable 80 (row_of document.now) 0 ms
+        → TariffGives (λ month. month) result (from_of (get_member from_name ms)) }
 {
-    match found(document, "from") {
-        Some(value) => match month_of(value) {
+    match document.get(0, "from".as_bytes()) {
+        Some(found) => match month_of(alloc, found)? {
             Some(month) => Ok(month),
             None => Err(TariffFault::BadFrom),
         },
@@ -177,55 +228,13 @@ impl TariffTable {
     }
 }
 
-fn any_has(classes: &[Class], name: &str) -> bool
-    ensures { result ≡ list_any (λ class. bytes_eq name.now (class_name class)) classes.now }
-{
-    classes.iter().any(|class| name == class.name())
-}
-
-fn other_name<'m>(table: TariffTable, members: &'m Table) -> Option<&'m str>
-    ensures { option_map (λ name. name.now) result ≡ first_other (is_class_name table) (table_view members.now) }
-{
-    for (name, _) in members {
-        if !any_has(table.classes(), name.as_str()) {
-            return Some(name.as_str());
-        }
-    }
-    None
-}
-
-// Refuses a name other than those of the table's classes.
-fn check_classes(alloc: Global, table: TariffTable, members: &Table) -> Result<(), TariffFault>
-    ensures { TariffGives (λ _. table_view members.now) result (with_classes table (table_view members.now)) }
-{
-    match other_name(table, members) {
-        Some(name) => unknown(alloc, name),
-        None => Ok(()),
-    }
-}
-
-// The price that a value is.
-fn price_of(value: &Value) -> Option<u32>
-    ensures { result ≡ price_of (view value.now) }
-{
-    match value {
-        Value::Integer(number) => {
-            if *number < 0 || *number > MOST_PRICE as i64 {
-                None
-            } else {
-                Some(*number as u32)
-            }
-        }
-        _ => None,
-    }
-}
-
 // The price that a table has for a class.
-fn read_price(table: TariffTable, members: &Table, class: Class) -> Result<u32, TariffFault>
-    ensures { TariffGives (λ price. price) result (price_in table (table_view members.now) class) }
+fn read_price(alloc: Global, table: TariffTable, keys: &Keys, number: u32, class: Class) -> Result<u32, TariffFault>
+    ensures { (depth : ℕ) (ms : Members) → IsTable depth (row_of keys.now) number ms
+        → TariffGives (λ price. price) result (price_in table ms class) }
 {
-    match found(members, class.name()) {
-        Some(value) => match price_of(value) {
+    match keys.get(number, class.name().as_bytes()) {
+        Some(found) => match price_of(alloc, found)? {
             Some(price) => Ok(price),
             None => Err(TariffFault::BadPrice { table, class }),
         },
@@ -234,154 +243,32 @@ fn read_price(table: TariffTable, members: &Table, class: Class) -> Result<u32, 
 }
 
 // Reads the prices of a table's classes into `prices`.
-fn read_prices(table: TariffTable, members: &Table, prices: &mut [u32]) -> Result<(), TariffFault>
+fn read_prices(
+    alloc: Global,
+    table: TariffTable,
+    keys: &Keys,
+    number: u32,
+    prices: &mut [u32],
+) -> Result<(), TariffFault>
     requires { length prices.old ≡ length (classes_of table) }
-    ensures { TariffGives (λ _. prices.new) result
-        (each_of (price_in table (table_view members.now)) (classes_of table)) }
+    ensures { (depth : ℕ) (ms : Members) → IsTable depth (row_of keys.now) number ms
+        → TariffGives (λ _. prices.new) result (each_of (price_in table ms) (classes_of table)) }
 {
     for (place, class) in table.classes().iter().enumerate() {
-        prices[place] = read_price(table, members, *class)?;
+        prices[place] = read_price(alloc, table, keys, number, *class)?;
     }
     Ok(())
 }
 
-// The end of a tier that a value is.
-fn upto_of(value: &Value) -> Option<u32>
-    ensures { result ≡ upto_of (view value.now) }
-{
-    match value {
-        Value::Integer(number) => {
-            if *number < 1 || *number > 4_294_967_295 {
-                None
-            } else {
-                Some(*number as u32)
-            }
-        }
-        _ => None,
-    }
-}
-
-// The optional end of a tier; None if the value is invalid.
-fn end_said(value: Option<&Value>) -> Option<Option<u32>>
-    ensures { result ≡ end_said (option_map (λ value. view value.now) value.entry) }
-{
-    match value {
-        Some(value) => match upto_of(value) {
-            Some(upto) => Some(Some(upto)),
-            None => None,
-        },
-        None => Some(None),
-    }
-}
-
-// A tier, given its price and its optional end.
-fn tier_by(price: Option<&Value>, end: Option<Option<u32>>) -> Option<Tier>
-    ensures { result ≡ tier_by (option_map (λ value. view value.now) price.entry) end }
-{
-    match (price, end) {
-        (Some(value), Some(upto)) => {
-            let price = price_of(value).unwrap_or(MOST_PRICE + 1);
-            Some(Tier { upto, price })
-        }
-        _ => None,
-    }
-}
-
-fn other_in_tier(members: &Table) -> Option<&str>
-    ensures { option_map (λ name. name.now) result ≡ first_other is_tier_name (table_view members.now) }
-{
-    for (name, _) in members {
-        if name.as_str() != "price" && name.as_str() != "upto" {
-            return Some(name.as_str());
-        }
-    }
-    None
-}
-
-// The tier that a table says.
-fn tier_among(members: &Table) -> Option<Tier>
-    ensures { result ≡ tier_among (table_view members.now) }
-{
-    if other_in_tier(members).is_some() {
-        return None;
-    }
-    tier_by(found(members, "price"), end_said(found(members, "upto")))
-}
-
-// The tier that an element of a list says.
-fn tier_said(element: &Value) -> Option<Tier>
-    ensures { result ≡ tier_said (view element.now) }
-{
-    match element.as_table() {
-        Some(members) => tier_among(members),
-        None => None,
-    }
-}
-
-// The tiers that a list says; their ends and prices are not checked yet.
-fn tiers_said(alloc: Global, class: Class, elements: &[Value]) -> Result<Vec<Tier>, TariffFault>
-    ensures { TariffGives (λ tiers. tiers.items) result (tiers_said class (items_view elements.now)) }
-{
-    let mut tiers = Vec::new(alloc);
-    for element in elements {
-        let Some(tier) = tier_said(element) else {
-            return Err(TariffFault::BadTiers { class });
-        };
-        if tiers.push(tier).is_err() {
-            return Err(TariffFault::NoMemory);
-        }
-    }
-    Ok(tiers)
-}
-
-// The tiers of a class, if they are valid.
-fn in_range(class: Class, tiers: Vec<Tier>) -> Result<Tiers, TariffFault>
-    ensures { TariffGives (λ tiers. tiers) result (in_range class tiers.items) }
-{
-    if !have_ends(&tiers) {
-        return Err(TariffFault::BadTiers { class });
-    }
-    match Tiers::of(tiers) {
-        Some(tiers) => Ok(tiers),
-        None => Err(TariffFault::BadPrice {
-            table: TariffTable::Storage,
-            class,
-        }),
-    }
-}
-
-// One tier with the price that a value is.
-fn one_of(value: &Value) -> Option<Tiers>
-    ensures { result ≡ option_map one_tier (price_of (view value.now)) }
-{
-    match price_of(value) {
-        Some(price) => Tiers::one(price),
-        None => None,
-    }
-}
-
-// The tiers that a value says for a class.
-fn tiers_of(alloc: Global, class: Class, value: &Value) -> Result<Tiers, TariffFault>
-    ensures { TariffGives (λ tiers. tiers) result (tiers_of class (view value.now)) }
-{
-    if let Value::Array(elements) = value {
-        return in_range(class, tiers_said(alloc, class, elements)?);
-    }
-    match one_of(value) {
-        Some(tiers) => Ok(tiers),
-        None => Err(TariffFault::BadPrice {
-            table: TariffTable::Storage,
-            class,
-        }),
-    }
-}
-
 // The tiers that the storage table has for a class.
-fn read_tiers(alloc: Global, members: &Table, class: Class) -> Result<Tiers, TariffFault>
-    ensures { TariffGives (λ tiers. tiers) result (tiers_in (table_view members.now) class) }
+fn read_tiers(alloc: Global, keys: &Keys, number: u32, depth: usize, class: Class) -> Result<Tiers, TariffFault>
+    ensures { (ms : Members) → IsTable depth (row_of keys.now) number ms → TariffGives (λ tiers. tiers) result (tiers_in ms class) }
 {
-    match found(members, class.name()) {
-        Some(value) => tiers_of(alloc, class, value),
+    match keys.get(number, class.name().as_bytes()) {
+        Some(found) => {
+            let tiers = tiers_of(alloc, class, keys, found, depth)?;
+            Ok(tiers)
+        }
         None => Err(TariffFault::MissingClass {
             table: TariffTable::Storage,
             class,
@@ -390,16 +277,16 @@ fn read_tiers(alloc: Global, members: &Table, class: Class) -> Result<Tiers, Tar
 }
 
 // Reads the tiers that the storage table has for each class.
-fn read_storage(alloc: Global, members: &Table) -> Result<[Tiers; 6], TariffFault>
-    ensures { TariffGives (λ tiers. tiers) result
-        (each_of (tiers_in (table_view members.now)) (classes_of TariffTable.Storage)) }
+fn read_storage(alloc: Global, keys: &Keys, number: u32, depth: usize) -> Result<[Tiers; 6], TariffFault>
+    ensures { (ms : Members) → IsTable depth (row_of keys.now) number ms
+        → TariffGives (λ tiers. tiers) result (each_of (tiers_in ms) (classes_of TariffTable.Storage)) }
 {
-    let standard = read_tiers(alloc, members, Class::Standard)?;
-    let standard_ia = read_tiers(alloc, members, Class::StandardIa)?;
-    let onezone_ia = read_tiers(alloc, members, Class::OnezoneIa)?;
-    let glacier_ir = read_tiers(alloc, members, Class::GlacierIr)?;
-    let glacier = read_tiers(alloc, members, Class::Glacier)?;
-    let deep_archive = read_tiers(alloc, members, Class::DeepArchive)?;
+    let standard = read_tiers(alloc, keys, number, depth, Class::Standard)?;
+    let standard_ia = read_tiers(alloc, keys, number, depth, Class::StandardIa)?;
+    let onezone_ia = read_tiers(alloc, keys, number, depth, Class::OnezoneIa)?;
+    let glacier_ir = read_tiers(alloc, keys, number, depth, Class::GlacierIr)?;
+    let glacier = read_tiers(alloc, keys, number, depth, Class::Glacier)?;
+    let deep_archive = read_tiers(alloc, keys, number, depth, Class::DeepArchive)?;
     Ok([
         standard,
         standard_ia,
@@ -408,4 +295,78 @@ fn read_storage(alloc: Global, members: &Table) -> Result<[Tiers; 6], TariffFaul
         glacier,
         deep_archive,
     ])
+}
+
+// The same of a table that was opened.
+fn check_opened(alloc: Global, table: TariffTable, document: &Keys, opened: &Opened) -> Result<(), TariffFault>
+    ensures { (o : Option Members) → IsOpened (row_of document.now) opened.now o
+        → TariffGives (λ _. unwrap_or o no_members) result (with_classes table (unwrap_or o no_members)) }
+{
+    match opened {
+        Opened::Inside(number) => check_classes(alloc, table, document, *number),
+        Opened::Own(keys) => check_classes(alloc, table, keys, 0),
+        Opened::Missing(keys) => check_classes(alloc, table, keys, 0),
+    }
+}
+
+fn storage_opened(alloc: Global, document: &Keys, opened: &Opened) -> Result<[Tiers; 6], TariffFault>
+    ensures { (o : Option Members) → IsOpened (row_of document.now) opened.now o
+        → TariffGives (λ tiers. tiers) result (each_of (tiers_in (unwrap_or o no_members)) (classes_of TariffTable.Storage)) }
+{
+    match opened {
+        Opened::Inside(number) => read_storage(alloc, document, *number, RECURSION_LIMIT),
+        Opened::Own(keys) => read_storage(alloc, keys, 0, RECURSION_LIMIT - 1),
+        Opened::Missing(keys) => read_storage(alloc, keys, 0, RECURSION_LIMIT - 1),
+    }
+}
+
+fn prices_opened(
+    alloc: Global,
+    table: TariffTable,
+    document: &Keys,
+    opened: &Opened,
+    prices: &mut [u32],
+) -> Result<(), TariffFault>
+    requires { length prices.old ≡ length (classes_of table) }
+    ensures { (o : Option Members) → IsOpened (row_of document.now) opened.now o
+        → TariffGives (λ _. prices.new) result (each_of (price_in table (unwrap_or o no_members)) (classes_of table)) }
+{
+    match opened {
+        Opened::Inside(number) => {
+            read_prices(alloc, table, document, *number, prices)?;
+            Ok(())
+        }
+        Opened::Own(keys) => {
+            read_prices(alloc, table, keys, 0, prices)?;
+            Ok(())
+        }
+        Opened::Missing(keys) => {
+            read_prices(alloc, table, keys, 0, prices)?;
+            Ok(())
+        }
+    }
+}
+
+// The tariff of a document.
+fn read_tariff(alloc: Global, document: &Keys) -> Result<Tariff, TariffFault>
+    ensures { (ms : Members) → IsTable 80 (row_of document.now) 0 ms
+        → TariffGives (λ tariff. tariff) result (tariff_in ms) }
+{
+    let storage = open(alloc, document, "storage")?;
+    let transition = open(alloc, document, "transition")?;
+    check_fields(alloc, document, is_there(&storage), is_there(&transition))?;
+    let from = read_from(alloc, document)?;
+    check_opened(alloc, TariffTable::Storage, document, &storage)?;
+    check_opened(alloc, TariffTable::Transition, document, &transition)?;
+    let stored = storage_opened(alloc, document, &storage)?;
+    let mut moved = [0; 5];
+    prices_opened(alloc, TariffTable::Transition, document, &transition, &mut moved)?;
+    if !are_all_prices(&moved) {
+        return Err(TariffFault::NoMemory);
+    }
+    Ok(Tariff {
+        from,
+        storage: stored,
+        transition: moved,
+    })
 }

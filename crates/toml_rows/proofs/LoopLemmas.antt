@@ -2,7 +2,7 @@
 use Rattle.std.proofs.Common.{◌≡◌, ℕ, zero, suc, ◌+◌, ◌-◌, ◌<◌, ◌≤◌, ◌==◌, Bool, true, false, List, [], ◌∷◌, ◌++◌, length, drop, get_or, Option, Some, None, option_map, refl, sym, ap, ap₂, ◌∙◌, subst, arith, inl, inr, ◌⊎◌}
 use Rattle.toml_parser.specs.Lexical.{Read, first, skip_blank}
 use Rattle.toml_parser.specs.Strings.{Key}
-use Rattle.toml.specs.Data.{Data, Items, no_items, array, table, push_item, Members}
+use Rattle.toml.specs.Data.{Data, Items, no_items, array, table, push_item, Members, no_members}
 use Rattle.toml.specs.Tables.{Nodes, no_nodes, close, put, Edit, along_header}
 use Rattle.toml.specs.Parse.{read_map, atom, val, after_element, key_equals, items, members}
 use Rattle.toml_rows.specs.declared.row.What.{What}
@@ -11,7 +11,7 @@ use Rattle.toml_rows.specs.Search.{none}
 use Rattle.toml_rows.specs.Rows.{is_key, Row, HasKey, IsEmpty}
 use Rattle.toml_rows.specs.Tables.{IsTree, IsTold, done_of}
 use Rattle.toml_rows.specs.Reading.{data_in, data_at, datum_of, Holds}
-use Rattle.toml_rows.specs.Documents.{rest_of}
+use Rattle.toml_rows.specs.Documents.{rest_of, IsTable}
 use Rattle.toml_rows.proofs.RowLemmas.{found_empty}
 
 pub holds_empty : (depth : ℕ) (row : Row) → IsEmpty row → Holds depth row (λ i. no_nodes) (λ i. no_items)
@@ -61,3 +61,7 @@ rest_map f (Some p) = refl
 pub at_top : (edit : Edit) (ns : Nodes) (o : Option Nodes) → along_header [] edit ns ≡ o → edit ns ≡ o
 unfolding along_header
 at_top edit ns o h = h
+
+-- an empty row has no members
+pub empty_table : (depth : ℕ) (row : Row) → IsEmpty row → IsTable depth row 0 no_members
+empty_table depth row empty = record { tables = λ i. no_nodes; elements = λ i. no_items; holds = holds_empty depth row empty; members = refl }

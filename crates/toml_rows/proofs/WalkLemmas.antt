@@ -75,7 +75,7 @@ module _ (depth : ℕ) (row : Row) (t : ℕ) (ms : Members) (is : IsTable depth 
 
 -- ---- the first name that is not known
 
-not_less : (k : List ℕ) → ¬ (order k k ≡ Less)
+pub not_less : (k : List ℕ) → ¬ (order k k ≡ Less)
 not_less k h = let same = tied_itself nat_list_cmp_total k in cc
 
 -- what is not among all nodes is not among the rest
@@ -88,7 +88,7 @@ rest_none k l x ns h = elim (cases_Bool (same_key l k)) [
 node_here : (k : List ℕ) (x : Node) (ns : Nodes) → get_node k (node k x ns) ≡ Some x
 node_here k x ns = rw (same_key-self k)
 
-after_has : (k n : List ℕ) (x : Node) (ns : Nodes) → AreAfter k ns → get_node n ns ≡ Some x → order k n ≡ Less
+pub after_has : (k n : List ℕ) (x : Node) (ns : Nodes) → AreAfter k ns → get_node n ns ≡ Some x → order k n ≡ Less
 after_has k n x no_nodes after h = absurd (none-some x h)
 after_has k n x (node l y ns) after h = elim (cases_Bool (same_key n l)) [
     | inl same ↦ let e : n ≡ l = same_key-is n l same in rw e after.0

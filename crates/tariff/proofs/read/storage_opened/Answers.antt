@@ -1,0 +1,30 @@
+use Rattle.std.proofs.Common.{◌≡◌, sym, subst, Option, unwrap_or}
+use Rattle.toml.specs.Data.{Members, no_members}
+use Rattle.toml_rows.specs.Rows.{row_of}
+use Rattle.tariff.specs.declared.read.Opened.TheVariants.{Inside, Own, Missing}
+use Rattle.tariff.specs.declared.fault.TariffTable.TheVariants.{Storage}
+use Rattle.tariff.specs.Faults.{TariffGives}
+use Rattle.tariff.specs.Opened.{IsOpened}
+use Rattle.tariff.specs.Reading.{with_classes, each_of, tiers_in, classes_of}
+use Rattle.tariff.proofs.read.storage_opened.Goals as goal
+
+pub returns-in-Inside : goal.returns-in-Inside
+returns-in-Inside c o opened_is =
+    let h : IsOpened (row_of c.args.document.now) (Inside c.in-Inside.number) o = rw c.in-Inside.is at opened_is in
+    let P : Option Members → Type 0 = λ p. TariffGives (λ tiers. tiers) c.read_storage.result (each_of (tiers_in (unwrap_or p no_members)) (classes_of Storage)) in
+    let (ms, is, same) = h in
+    subst P (sym same) (c.read_storage.ensures ms is)
+
+pub returns-in-Own : goal.returns-in-Own
+returns-in-Own c o opened_is =
+    let h : IsOpened (row_of c.args.document.now) (Own c.in-Own.keys) o = rw c.in-Own.is at opened_is in
+    let P : Option Members → Type 0 = λ p. TariffGives (λ tiers. tiers) c.read_storage-in-Own.result (each_of (tiers_in (unwrap_or p no_members)) (classes_of Storage)) in
+    let (ms, is, same) = h in
+    subst P (sym same) (c.read_storage-in-Own.ensures ms is)
+
+pub returns-in-Missing : goal.returns-in-Missing
+returns-in-Missing c o opened_is =
+    let h : IsOpened (row_of c.args.document.now) (Missing c.in-Missing.keys) o = rw c.in-Missing.is at opened_is in
+    let P : Option Members → Type 0 = λ p. TariffGives (λ tiers. tiers) c.read_storage-in-Missing.result (each_of (tiers_in (unwrap_or p no_members)) (classes_of Storage)) in
+    let (is, same) = h in
+    subst P (sym same) (c.read_storage-in-Missing.ensures no_members is)
