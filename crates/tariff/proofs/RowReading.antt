@@ -59,15 +59,16 @@ agree_all p q h (member k d ms) = (h k d, agree_all p q h ms)
 agree_nodes : (p : List ℕ → Bool) (q : List ℕ → Data → Bool) (whole : Members) → ((k : List ℕ) (d : Data) → get_member k whole ≡ Some d → p k ≡ q k d)
     → (ns : Nodes) → IsOrdered ns → ((k : List ℕ) (x : Node) → get_node k ns ≡ Some x → get_member k whole ≡ Some (close_node x)) → AllAgree p q (close ns)
 agree_nodes p q whole h no_nodes ordered inside = tt
-agree_nodes p q whole h (node k x ns) ordered inside =
-    (h k (close_node x) (inside k x (rw (same_key-self k))),
-    agree_nodes p q whole h ns ordered.1 (λ l y is. inside l y (elim (cases_Bool (same_key l k)) [
-      | inl same ↦
-          let e : l ≡ k = same_key-is l k same in
-          let less : order k l ≡ Less = after_has k l y ns ordered.0 is in
-          absurd (not_less k (ap (order k) (sym e) ∙ less))
-      | inr other ↦ rw other is
-    ])))
+agree_nodes p q whole h (node k x ns) ordered inside = (
+  h k (close_node x) (inside k x (rw (same_key-self k))),
+  agree_nodes p q whole h ns ordered.1 (λ l y is. inside l y (elim (cases_Bool (same_key l k)) [
+    | inl same ↦
+        let e : l ≡ k = same_key-is l k same in
+        let less : order k l ≡ Less = after_has k l y ns ordered.0 is in
+        absurd (not_less k (ap (order k) (sym e) ∙ less))
+    | inr other ↦ rw other is
+  ])),
+)
 
 pub agree_table : (p : List ℕ → Bool) (q : List ℕ → Data → Bool) (depth : ℕ) (row : Row) (t : ℕ) (ms : Members) → IsTable depth row t ms
     → ((k : List ℕ) (d : Data) → get_member k ms ≡ Some d → p k ≡ q k d) → AllAgree p q ms
@@ -76,7 +77,7 @@ agree_table p q depth row t ms is h =
     let told = holds.told in
     let P : Members → Type 0 = λ m. AllAgree p q m in
     subst P is.members (agree_nodes p q ms h (is.tables t) (told.sorted t)
-      (λ k x at. ap (get_member k) (sym is.members) ∙ close_get k (is.tables t) ∙ ap (option_map close_node) at))
+    (λ k x at. ap (get_member k) (sym is.members) ∙ close_get k (is.tables t) ∙ ap (option_map close_node) at))
 
 -- ---- the fields of a tariff
 
@@ -103,9 +104,9 @@ pub field_known : (st tr : Bool) (ms : Members) → st ≡ is_some (option_and_t
 field_known st tr ms st_is tr_is k d at =
     by_bools (bytes_eq k from_name) (bytes_eq k (table_name Storage)) (bytes_eq k (table_name Transition)) st tr (is_some (as_table d))
     (λ same. let e : k ≡ table_name Storage = (bytes_eq-Decides k (table_name Storage)).0 same in
-      st_is ∙ ap (λ n. is_some (option_and_then as_table (get_member n ms))) (sym e) ∙ ap (λ o. is_some (option_and_then as_table o)) at)
+    st_is ∙ ap (λ n. is_some (option_and_then as_table (get_member n ms))) (sym e) ∙ ap (λ o. is_some (option_and_then as_table o)) at)
     (λ same. let e : k ≡ table_name Transition = (bytes_eq-Decides k (table_name Transition)).0 same in
-      tr_is ∙ ap (λ n. is_some (option_and_then as_table (get_member n ms))) (sym e) ∙ ap (λ o. is_some (option_and_then as_table o)) at)
+    tr_is ∙ ap (λ n. is_some (option_and_then as_table (get_member n ms))) (sym e) ∙ ap (λ o. is_some (option_and_then as_table o)) at)
 
 pub same_tt : (f s t : Bool) → (f || (s || (t || false))) ≡ (f || ((s && true) || (t && true)))
 same_tt true s t = refl

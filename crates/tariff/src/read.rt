@@ -144,7 +144,12 @@ fn refuse_unknown(alloc: Global, keys: &Keys, table: u32, known: &[&str]) -> Res
 }
 
 // Refuses a field other than the two tables and the first month.
-fn check_fields(alloc: Global, document: &Keys, storage: bool, transition: bool) -> Result<(), TariffFault>
+fn check_fields(
+    alloc: Global,
+    document: &Keys,
+    storage: bool,
+    transition: bool,
+) -> Result<(), TariffFault>
     ensures { (ms : Members) → IsTable 80 (row_of document.now) 0 ms
         → storage ≡ is_some (option_and_then as_table (get_member (table_name TariffTable.Storage) ms))
         → transition ≡ is_some (option_and_then as_table (get_member (table_name TariffTable.Transition) ms))
@@ -164,13 +169,41 @@ fn check_fields(alloc: Global, document: &Keys, storage: bool, transition: bool)
 }
 
 // Refuses a name other than those of the table's classes.
-fn check_classes(alloc: Global, table: TariffTable, keys: &Keys, number: u32) -> Result<(), TariffFault>
+fn check_classes(
+    alloc: Global,
+    table: TariffTable,
+    keys: &Keys,
+    number: u32,
+) -> Result<(), TariffFault>
     ensures { (depth : ℕ) (ms : Members) → IsTable depth (row_of keys.now) number ms
         → TariffGives (λ _. ms) result (with_classes table ms) }
 {
     match table {
-        TariffTable::Storage => refuse_unknown(alloc, keys, number, &["STANDARD", "STANDARD_IA", "ONEZONE_IA", "GLACIER_IR", "GLACIER", "DEEP_ARCHIVE"]),
-        TariffTable::Transition => refuse_unknown(alloc, keys, number, &["STANDARD_IA", "ONEZONE_IA", "GLACIER_IR", "GLACIER", "DEEP_ARCHIVE"]),
+        TariffTable::Storage => refuse_unknown(
+            alloc,
+            keys,
+            number,
+            &[
+                "STANDARD",
+                "STANDARD_IA",
+                "ONEZONE_IA",
+                "GLACIER_IR",
+                "GLACIER",
+                "DEEP_ARCHIVE",
+            ],
+        ),
+        TariffTable::Transition => refuse_unknown(
+            alloc,
+            keys,
+            number,
+            &[
+                "STANDARD_IA",
+                "ONEZONE_IA",
+                "GLACIER_IR",
+                "GLACIER",
+                "DEEP_ARCHIVE",
+            ],
+        ),
     }
 }
 
@@ -229,7 +262,13 @@ impl TariffTable {
 }
 
 // The price that a table has for a class.
-fn read_price(alloc: Global, table: TariffTable, keys: &Keys, number: u32, class: Class) -> Result<u32, TariffFault>
+fn read_price(
+    alloc: Global,
+    table: TariffTable,
+    keys: &Keys,
+    number: u32,
+    class: Class,
+) -> Result<u32, TariffFault>
     ensures { (depth : ℕ) (ms : Members) → IsTable depth (row_of keys.now) number ms
         → TariffGives (λ price. price) result (price_in table ms class) }
 {
@@ -261,7 +300,13 @@ fn read_prices(
 }
 
 // The tiers that the storage table has for a class.
-fn read_tiers(alloc: Global, keys: &Keys, number: u32, depth: usize, class: Class) -> Result<Tiers, TariffFault>
+fn read_tiers(
+    alloc: Global,
+    keys: &Keys,
+    number: u32,
+    depth: usize,
+    class: Class,
+) -> Result<Tiers, TariffFault>
     ensures { (ms : Members) → IsTable depth (row_of keys.now) number ms → TariffGives (λ tiers. tiers) result (tiers_in ms class) }
 {
     match keys.get(number, class.name().as_bytes()) {
@@ -277,7 +322,12 @@ fn read_tiers(alloc: Global, keys: &Keys, number: u32, depth: usize, class: Clas
 }
 
 // Reads the tiers that the storage table has for each class.
-fn read_storage(alloc: Global, keys: &Keys, number: u32, depth: usize) -> Result<[Tiers; 6], TariffFault>
+fn read_storage(
+    alloc: Global,
+    keys: &Keys,
+    number: u32,
+    depth: usize,
+) -> Result<[Tiers; 6], TariffFault>
     ensures { (ms : Members) → IsTable depth (row_of keys.now) number ms
         → TariffGives (λ tiers. tiers) result (each_of (tiers_in ms) (classes_of TariffTable.Storage)) }
 {
@@ -298,7 +348,12 @@ fn read_storage(alloc: Global, keys: &Keys, number: u32, depth: usize) -> Result
 }
 
 // The same of a table that was opened.
-fn check_opened(alloc: Global, table: TariffTable, document: &Keys, opened: &Opened) -> Result<(), TariffFault>
+fn check_opened(
+    alloc: Global,
+    table: TariffTable,
+    document: &Keys,
+    opened: &Opened,
+) -> Result<(), TariffFault>
     ensures { (o : Option Members) → IsOpened (row_of document.now) opened.now o
         → TariffGives (λ _. unwrap_or o no_members) result (with_classes table (unwrap_or o no_members)) }
 {
@@ -309,7 +364,11 @@ fn check_opened(alloc: Global, table: TariffTable, document: &Keys, opened: &Ope
     }
 }
 
-fn storage_opened(alloc: Global, document: &Keys, opened: &Opened) -> Result<[Tiers; 6], TariffFault>
+fn storage_opened(
+    alloc: Global,
+    document: &Keys,
+    opened: &Opened,
+) -> Result<[Tiers; 6], TariffFault>
     ensures { (o : Option Members) → IsOpened (row_of document.now) opened.now o
         → TariffGives (λ tiers. tiers) result (each_of (tiers_in (unwrap_or o no_members)) (classes_of TariffTable.Storage)) }
 {
@@ -360,7 +419,13 @@ fn read_tariff(alloc: Global, document: &Keys) -> Result<Tariff, TariffFault>
     check_opened(alloc, TariffTable::Transition, document, &transition)?;
     let stored = storage_opened(alloc, document, &storage)?;
     let mut moved = [0; 5];
-    prices_opened(alloc, TariffTable::Transition, document, &transition, &mut moved)?;
+    prices_opened(
+        alloc,
+        TariffTable::Transition,
+        document,
+        &transition,
+        &mut moved,
+    )?;
     if !are_all_prices(&moved) {
         return Err(TariffFault::NoMemory);
     }

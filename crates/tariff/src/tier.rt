@@ -90,7 +90,11 @@ fn end_said(alloc: Global, found: Option<Found>) -> Result<Option<Option<u32>>, 
 }
 
 // A tier, given its price and its optional end.
-fn tier_by(alloc: Global, price: Option<Found>, end: Option<Option<u32>>) -> Result<Option<Tier>, AllocError>
+fn tier_by(
+    alloc: Global,
+    price: Option<Found>,
+    end: Option<Option<u32>>,
+) -> Result<Option<Tier>, AllocError>
     ensures { IfOk result (λ tier. (depth : ℕ) (row : Row) (o : Option Data) → Finds depth row price.entry o → tier ≡ tier_by o end) }
 {
     let Some(found) = price else {
@@ -144,7 +148,12 @@ fn tier_said(alloc: Global, text: &str, depth: usize) -> Result<Option<Tier>, Al
 }
 
 // The tiers that a list says; their ends and prices are not checked yet.
-fn tiers_in_list(alloc: Global, class: Class, texts: &[&str], depth: usize) -> Result<Vec<Tier>, TariffFault>
+fn tiers_in_list(
+    alloc: Global,
+    class: Class,
+    texts: &[&str],
+    depth: usize,
+) -> Result<Vec<Tier>, TariffFault>
     ensures { TariffGives (λ tiers. tiers.items) result (tiers_said class (items_of (data_of_all depth texts.now))) }
 {
     let mut tiers = Vec::new(alloc);
@@ -161,7 +170,12 @@ fn tiers_in_list(alloc: Global, class: Class, texts: &[&str], depth: usize) -> R
 }
 
 // The same of an array of tables.
-fn tiers_in_tables(alloc: Global, class: Class, keys: &Keys, numbers: &[u32]) -> Result<Vec<Tier>, TariffFault>
+fn tiers_in_tables(
+    alloc: Global,
+    class: Class,
+    keys: &Keys,
+    numbers: &[u32],
+) -> Result<Vec<Tier>, TariffFault>
     ensures { (depth : ℕ) (tables : ℕ → Nodes) (before : ℕ → Items) → Holds depth (row_of keys.now) tables before
         → TariffGives (λ tiers. tiers.items) result (tiers_said class (items_of (tables_of tables numbers.now))) }
 {
@@ -215,7 +229,12 @@ fn one_of(class: Class, number: Option<i64>) -> Result<Tiers, TariffFault>
 }
 
 // The tiers that the text of a value says for a class.
-fn tiers_of_text(alloc: Global, class: Class, text: &str, depth: usize) -> Result<Tiers, TariffFault>
+fn tiers_of_text(
+    alloc: Global,
+    class: Class,
+    text: &str,
+    depth: usize,
+) -> Result<Tiers, TariffFault>
     ensures { TariffGives (λ tiers. tiers) result (tiers_of class (data_at depth text.now)) }
 {
     match elements(alloc, text, depth)? {
@@ -231,7 +250,12 @@ fn tiers_of_text(alloc: Global, class: Class, text: &str, depth: usize) -> Resul
 }
 
 // The tiers that an array of tables says for a class.
-fn tiers_of_tables(alloc: Global, class: Class, keys: &Keys, last: u32) -> Result<Tiers, TariffFault>
+fn tiers_of_tables(
+    alloc: Global,
+    class: Class,
+    keys: &Keys,
+    last: u32,
+) -> Result<Tiers, TariffFault>
     ensures { (depth : ℕ) (ds : Items) → IsArray depth (row_of keys.now) last ds
         → TariffGives (λ tiers. tiers) result (tiers_of class (array ds)) }
 {
@@ -241,7 +265,13 @@ fn tiers_of_tables(alloc: Global, class: Class, keys: &Keys, last: u32) -> Resul
 }
 
 // The tiers that a value says for a class.
-pub(crate) fn tiers_of(alloc: Global, class: Class, keys: &Keys, found: Found, depth: usize) -> Result<Tiers, TariffFault>
+pub(crate) fn tiers_of(
+    alloc: Global,
+    class: Class,
+    keys: &Keys,
+    found: Found,
+    depth: usize,
+) -> Result<Tiers, TariffFault>
     ensures { (d : Data) → Says depth (row_of keys.now) found.entry d → TariffGives (λ tiers. tiers) result (tiers_of class d) }
 {
     match found {

@@ -47,9 +47,9 @@ module _ (X : Type 0) (see : Data → Option X) (no_string : (s : List ℕ) → 
   atom_none : (text : List ℕ) → see (data_in (atom text)) ≡ None
   unfolding atom
   atom_none text = elim (cases_Bool (starts_string text)) [
-      | inl yes_string ↦ rw yes_string (string_none (quoted text))
-      | inr other ↦ rw other (scalar_none (unquoted text))
-    ]
+    | inl yes_string ↦ rw yes_string (string_none (quoted text))
+    | inr other ↦ rw other (scalar_none (unquoted text))
+  ]
 
 scalar_no_table : (s : Scalar) → as_table (scalar_data s) ≡ None
 scalar_no_table (Boolean b) = refl
@@ -75,9 +75,9 @@ pub no_inline : (depth : ℕ) (text : List ℕ) → (first text == 123) ≡ fals
 unfolding val
 no_inline zero text other = atom_none Members as_table (λ s. refl) scalar_no_table refl text
 no_inline (suc depth) text other = elim (cases_Bool (first text == 91)) [
-    | inl bracket ↦ rw bracket (table_none (items (val depth) (length text) no_items (drop 1 text)))
-    | inr none_open ↦ rw (none_open, other) (atom_none Members as_table (λ s. refl) scalar_no_table refl text)
-  ]
+  | inl bracket ↦ rw bracket (table_none (items (val depth) (length text) no_items (drop 1 text)))
+  | inr none_open ↦ rw (none_open, other) (atom_none Members as_table (λ s. refl) scalar_no_table refl text)
+]
 
 pub no_inline_deep : (text : List ℕ) → as_table (data_at 0 text) ≡ None
 unfolding val
@@ -93,9 +93,9 @@ pub no_list : (depth : ℕ) (text : List ℕ) → (first text == 91) ≡ false �
 unfolding val
 no_list zero text other = atom_none Items as_array (λ s. refl) scalar_no_array refl text
 no_list (suc depth) text other = elim (cases_Bool (first text == 123)) [
-    | inl brace ↦ rw (other, brace) (array_none (members (val depth) (length text) no_nodes (drop 1 text)))
-    | inr none_open ↦ rw (other, none_open) (atom_none Items as_array (λ s. refl) scalar_no_array refl text)
-  ]
+  | inl brace ↦ rw (other, brace) (array_none (members (val depth) (length text) no_nodes (drop 1 text)))
+  | inr none_open ↦ rw (other, none_open) (atom_none Items as_array (λ s. refl) scalar_no_array refl text)
+]
 
 pub no_list_deep : (text : List ℕ) → as_array (data_at 0 text) ≡ None
 unfolding val
@@ -113,15 +113,16 @@ bracket_data : (X : Type 0) (see : Data → Option X) → ((ds : Items) → see 
 unfolding val
 bracket_data X see no_array no_table no_default zero text h = ap (λ o. see (data_in o)) (val_deep text h) ∙ no_default
 bracket_data X see no_array no_table no_default (suc depth) text h = elim (cases_Bool (first text == 91)) [
-    | inl bracket ↦ rw bracket (arrays (items (val depth) (length text) no_items (drop 1 text)))
-    | inr other ↦
-        let brace : (first text == 123) ≡ true = rw other at h in
-        rw (other, brace) (tables (members (val depth) (length text) no_nodes (drop 1 text)))
-  ]
+  | inl bracket ↦ rw bracket (arrays (items (val depth) (length text) no_items (drop 1 text)))
+  | inr other ↦
+      let brace : (first text == 123) ≡ true = rw other at h in
+      rw (other, brace) (tables (members (val depth) (length text) no_nodes (drop 1 text)))
+]
   where
     arrays : (o : Read Items) → see (data_in (read_map array o)) ≡ None
     arrays None = no_default
     arrays (Some p) = no_array p.0
+
     tables : (o : Read Members) → see (data_in (read_map table o)) ≡ None
     tables None = no_default
     tables (Some p) = no_table p.0
@@ -153,12 +154,12 @@ integer_at depth text a b h = ap (λ o. as_integer (data_in o)) (val_atom depth 
 pub no_string_at : (depth : ℕ) (text : List ℕ) → starts_string text ≡ false → as_str (data_at depth text) ≡ None
 unfolding atom
 no_string_at depth text h = elim (cases_Bool ((first text == 91) || (first text == 123))) [
-    | inl bracket ↦ bracket_data _ as_str (λ ds. refl) (λ ms. refl) refl depth text bracket
-    | inr other ↦
-        let a : (first text == 91) ≡ false = grind (arith, nat_tests) in
-        let b : (first text == 123) ≡ false = grind (arith, nat_tests) in
-        ap (λ o. as_str (data_in o)) (val_atom depth text a b) ∙ rw h (scalars (unquoted text))
-  ]
+  | inl bracket ↦ bracket_data _ as_str (λ ds. refl) (λ ms. refl) refl depth text bracket
+  | inr other ↦
+      let a : (first text == 91) ≡ false = grind (arith, nat_tests) in
+      let b : (first text == 123) ≡ false = grind (arith, nat_tests) in
+      ap (λ o. as_str (data_in o)) (val_atom depth text a b) ∙ rw h (scalars (unquoted text))
+]
   where
     scalars : (o : Read Scalar) → as_str (data_in (read_map scalar_data o)) ≡ None
     scalars None = refl

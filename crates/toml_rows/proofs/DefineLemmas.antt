@@ -36,9 +36,9 @@ module _ (old : Row) (text : List ℕ) where
       let tree = holds.tree in
       let told = holds.told in
       let same : (i v : ℕ) → i < old.count → old.what i ≡ Value v → datum_of depth (old.values ++ text ∷ []) v ≡ datum_of depth old.values v
-          = λ i v low is. ap (data_at depth) (get_or_append_left old.values (text ∷ []) [] v (holds.values i v low is)) in
+      = λ i v low is. ap (data_at depth) (get_or_append_left old.values (text ∷ []) [] v (holds.values i v low is)) in
       let nodes : (i : ℕ) (w : What) → i < old.count → old.what i ≡ w → node_of (datum_of depth old.values) f d i w ≡ node_of (datum_of depth (old.values ++ text ∷ [])) f d i w
-          = λ i w low is. same_node i w (λ v e. sym (same i v low (is ∙ e))) in
+      = λ i w low is. same_node i w (λ v e. sym (same i v low (is ∙ e))) in
       record {
         tree = record {
           some = tree.some;
@@ -88,14 +88,15 @@ module _ (depth : ℕ) (mid : Row) (f : ℕ → Nodes) (d : ℕ → Items) (p : 
       let keeps = keeps_add depth mid f d p t holds leads new k (Value v) n adds nothing refl in
       let values : mid.values ≡ old.values ++ text ∷ [] = ap (λ (row : Row). row.values) is in
       let at_v : get_or mid.values v [] ≡ text = ap (λ xs. get_or xs v []) values ∙ get_or_at old.values text [] [] v (sym number) in
-      let less : v < length mid.values = rw values (omega (arith, length-append old.values (text ∷ []))) in
-      (keeps,
-      inserted depth mid f d p t holds leads new k (Value v) n adds nothing refl
-        (λ u same. let e : v ≡ u = cc in rw e at less)
-        (at_key k (key_value (data_at depth text)))
-        (at_key_new k (key_value (data_at depth text)) (f t) (gone_at depth mid f d p t holds leads k nothing)
-          ∙ ap (λ x. Some (insert k (value (data_at depth x)) (f t))) (sym at_v))
-        p t (keeps p t leads))
+      let less : v < length mid.values = rw values (omega (arith, length-append old.values (text ∷ []))) in (
+        keeps,
+        inserted depth mid f d p t holds leads new k (Value v) n adds nothing refl
+            (λ u same. let e : v ≡ u = cc in rw e at less)
+            (at_key k (key_value (data_at depth text)))
+            (at_key_new k (key_value (data_at depth text)) (f t) (gone_at depth mid f d p t holds leads k nothing)
+            ∙ ap (λ x. Some (insert k (value (data_at depth x)) (f t))) (sym at_v))
+            p t (keeps p t leads),
+      )
 
   -- ---- the table of a header
 
@@ -146,14 +147,14 @@ module _ (depth : ℕ) (mid : Row) (f : ℕ → Nodes) (d : ℕ → Items) (p : 
 
   values_next : (new : Row) (i b : ℕ) → Nexts mid new i b → (j v : ℕ) → j < new.count → new.what j ≡ Value v → v < length new.values
   values_next new i b nexts j v low is = elim (cases_eq j i) [
-      | inl here ↦ let wrong : Value v ≡ Tables mid.count = sym is ∙ ap new.what here ∙ nexts.what in absurd cc
-      | inr other ↦ elim (cases_eq j mid.count) [
-        | inl last ↦ let wrong : Value v ≡ Element b = sym is ∙ ap new.what last ∙ nexts.element in absurd cc
-        | inr older ↦
-            let low' : j < mid.count = omega (arith, nexts.count) in
-            rw nexts.values (holds.values j v low' (sym (nexts.whats j low' other) ∙ is))
-      ]
+    | inl here ↦ let wrong : Value v ≡ Tables mid.count = sym is ∙ ap new.what here ∙ nexts.what in absurd cc
+    | inr other ↦ elim (cases_eq j mid.count) [
+      | inl last ↦ let wrong : Value v ≡ Element b = sym is ∙ ap new.what last ∙ nexts.element in absurd cc
+      | inr older ↦
+          let low' : j < mid.count = omega (arith, nexts.count) in
+          rw nexts.values (holds.values j v low' (sym (nexts.whats j low' other) ∙ is))
     ]
+  ]
 
   -- an edit that adds an element
   next : (new : Row) (i b n : ℕ) → HasKey mid i t k → NextOf mid new i b n → (¬ (b ≡ none) → mid.what i ≡ Tables b) → (edit : Edit)
@@ -202,7 +203,7 @@ element_new depth old mid new f d p t holds leads k i n adds nothing after =
     let two = next depth mid one.tables one.elements p t one.holds one.leads k new i none n here after (λ some. absurd (some refl)) turned refl in
     let both = along_seq p made turned (f 0) ∙ ap (option_and_then (along_header p turned)) one.is ∙ two.is in
     let same : at_key k array_table (f t) ≡ seq made turned (f t) =
-        at_key_new k array_table (f t) (gone_at depth old f d p t holds leads k nothing) ∙ ap Some (sym (replace-insert k (open_table header no_nodes) (open_array no_items no_nodes) (f t))) in
+    at_key_new k array_table (f t) (gone_at depth old f d p t holds leads k nothing) ∙ ap Some (sym (replace-insert k (open_table header no_nodes) (open_array no_items no_nodes) (f t))) in
     record {
       tables = two.tables;
       elements = two.elements;
@@ -251,15 +252,16 @@ module _ (path path' : List (List ℕ)) (k k' : List ℕ) (path_is : path' ≡ p
       → Keeps mid new × Entered depth new (p ++ path') s (λ to. along_header (p ++ path') (at_key k' (key_value d)) (e.tables 0) ≡ Some to)
       → Keeps old new × Entered depth new p t (λ to. along_header p (put (path, k) d) top ≡ Some to)
   put_all depth old mid new p t s top d leads keeps e after =
-      let a = after.1 in
-      ((λ q m there. after.0 q m (keeps q m there)),
-      record {
-        tables = a.tables;
-        elements = a.elements;
-        holds = a.holds;
-        leads = after.0 p t (keeps p t leads);
-        is = ap₂ (λ q l. along_header p (along_dots q (at_key l (key_value d))) top) (sym path_is) (sym k_is) ∙ e.is (at_key k' (key_value d)) ∙ a.is;
-      })
+      let a = after.1 in (
+        (λ q m there. after.0 q m (keeps q m there)),
+        record {
+          tables = a.tables;
+          elements = a.elements;
+          holds = a.holds;
+          leads = after.0 p t (keeps p t leads);
+          is = ap₂ (λ q l. along_header p (along_dots q (at_key l (key_value d))) top) (sym path_is) (sym k_is) ∙ e.is (at_key k' (key_value d)) ∙ a.is;
+        },
+      )
 
   pub put_no_path : (p : List (List ℕ)) (top : Nodes) (d : Data) → ((edit : Edit) → along_header p (along_dots path' edit) top ≡ None)
       → along_header p (put (path, k) d) top ≡ None

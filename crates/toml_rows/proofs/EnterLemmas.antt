@@ -131,7 +131,7 @@ module _ (depth : ℕ) (old : Row) (f : ℕ → Nodes) (d : ℕ → Items) (p : 
     inserted small edit h q s there =
         let g = adds.grows in
         let c = added old new t k w adds.grows plain holds.tree adds.small (leads_within old holds.tree leads) free
-            (datum_of depth old.values) f d holds.told leads in
+        (datum_of depth old.values) f d holds.told leads in
         let e = c.climbed in
         let same : datum_of depth new.values ≡ datum_of depth old.values = ap (datum_of depth) g.values in
         let P : (ℕ → Data) → Type 0 = λ x. IsTold x new e.tables e.tables c.elements in
@@ -201,11 +201,12 @@ module _ (depth : ℕ) (old : Row) (f : ℕ → Nodes) (d : ℕ → Items) (p : 
   pub header_found : (i s : ℕ) → HasKey old i t k → is_open (old.what i) ≡ true → s ≡ inside i (old.what i)
       → Keeps old old × Entered depth old (p ++ k ∷ []) s (λ top. along_header p (mark_header k) (f 0) ≡ Some top)
   header_found i s has opens is =
-      let P : ℕ → Type 0 = λ m. Leads old (p ++ k ∷ []) m in
-      ((λ q s there. there),
-      still depth old f d p t holds leads (mark_header k)
-        (mark_passes (datum_of depth old.values) f d i k (f t) (old.what i) (told_at depth old f d p t holds leads i k has) opens)
-        (p ++ k ∷ []) s (subst P (sym is) (step i k leads has opens)))
+      let P : ℕ → Type 0 = λ m. Leads old (p ++ k ∷ []) m in (
+        (λ q s there. there),
+        still depth old f d p t holds leads (mark_header k)
+            (mark_passes (datum_of depth old.values) f d i k (f t) (old.what i) (told_at depth old f d p t holds leads i k has) opens)
+            (p ++ k ∷ []) s (subst P (sym is) (step i k leads has opens)),
+      )
 
   pub header_stopped : (i : ℕ) → HasKey old i t k → is_open (old.what i) ≡ false → mark_header k (f t) ≡ None
   header_stopped i has opens =
@@ -217,40 +218,44 @@ module _ (depth : ℕ) (old : Row) (f : ℕ → Nodes) (d : ℕ → Items) (p : 
 
   pub header_new : (new : Row) (n : ℕ) → Adds old new t k Implicit n → ((i : ℕ) → ¬ HasKey old i t k)
       → Keeps old new × Entered depth new (p ++ k ∷ []) n (λ top. along_header p (mark_header k) (f 0) ≡ Some top)
-  header_new new n adds nothing =
-      (keeps_add depth old f d p t holds leads new k Implicit n adds nothing refl,
-      inserted depth old f d p t holds leads new k Implicit n adds nothing refl (λ v is. absurd cc) (mark_header k)
+  header_new new n adds nothing = (
+    keeps_add depth old f d p t holds leads new k Implicit n adds nothing refl,
+    inserted depth old f d p t holds leads new k Implicit n adds nothing refl (λ v is. absurd cc) (mark_header k)
         (mark_new_header (datum_of depth old.values) k (f t) (gone_at depth old f d p t holds leads k nothing))
-        (p ++ k ∷ []) n (leads_new depth old f d p t holds leads new k Implicit n adds nothing refl refl refl))
+        (p ++ k ∷ []) n (leads_new depth old f d p t holds leads new k Implicit n adds nothing refl refl refl),
+  )
 
   pub dots_new : (new : Row) (n : ℕ) → Adds old new t k Dotted n → ((i : ℕ) → ¬ HasKey old i t k)
       → Keeps old new × Entered depth new (p ++ k ∷ []) n (λ top. along_header p (mark_dots k) (f 0) ≡ Some top)
-  dots_new new n adds nothing =
-      (keeps_add depth old f d p t holds leads new k Dotted n adds nothing refl,
-      inserted depth old f d p t holds leads new k Dotted n adds nothing refl (λ v is. absurd cc) (mark_dots k)
+  dots_new new n adds nothing = (
+    keeps_add depth old f d p t holds leads new k Dotted n adds nothing refl,
+    inserted depth old f d p t holds leads new k Dotted n adds nothing refl (λ v is. absurd cc) (mark_dots k)
         (mark_new_dots (datum_of depth old.values) k (f t) (gone_at depth old f d p t holds leads k nothing))
-        (p ++ k ∷ []) n (leads_new depth old f d p t holds leads new k Dotted n adds nothing refl refl refl))
+        (p ++ k ∷ []) n (leads_new depth old f d p t holds leads new k Dotted n adds nothing refl refl refl),
+  )
 
   dots_here : (i : ℕ) → HasKey old i t k → old.what i ≡ Dotted
       → Keeps old old × Entered depth old (p ++ k ∷ []) i (λ top. along_header p (mark_dots k) (f 0) ≡ Some top)
   dots_here i has dots =
       let opens : is_open (old.what i) ≡ true = ap is_open dots in
       let own : inside i (old.what i) ≡ i = ap (inside i) dots in
-      let P : ℕ → Type 0 = λ m. Leads old (p ++ k ∷ []) m in
-      ((λ q s there. there),
-      still depth old f d p t holds leads (mark_dots k)
-        (mark_dotted (datum_of depth old.values) f d i k (f t) (old.what i) (told_at depth old f d p t holds leads i k has) dots)
-        (p ++ k ∷ []) i (subst P own (step i k leads has opens)))
+      let P : ℕ → Type 0 = λ m. Leads old (p ++ k ∷ []) m in (
+        (λ q s there. there),
+        still depth old f d p t holds leads (mark_dots k)
+            (mark_dotted (datum_of depth old.values) f d i k (f t) (old.what i) (told_at depth old f d p t holds leads i k has) dots)
+            (p ++ k ∷ []) i (subst P own (step i k leads has opens)),
+      )
 
   dots_put : (new : Row) (i : ℕ) → HasKey old i t k → old.what i ≡ Implicit → Puts old new i Dotted
       → Keeps old new × Entered depth new (p ++ k ∷ []) i (λ top. along_header p (mark_dots k) (f 0) ≡ Some top)
   dots_put new i has was puts =
       let table : is_table (old.what i) ≡ true = ap is_table was in
-      let key : is_key (old.what i) ≡ true = ap is_key was in
-      (keeps_put depth old f d p t holds leads new i k Dotted puts has table refl key,
-      put_there depth old f d p t holds leads new i k Dotted puts has table refl key (mark_dots k)
-        (mark_implicit (datum_of depth old.values) f d i k (f t) (old.what i) (told_at depth old f d p t holds leads i k has) was)
-        (p ++ k ∷ []) i (leads_put depth old f d p t holds leads new i k Dotted puts has table refl key))
+      let key : is_key (old.what i) ≡ true = ap is_key was in (
+        keeps_put depth old f d p t holds leads new i k Dotted puts has table refl key,
+        put_there depth old f d p t holds leads new i k Dotted puts has table refl key (mark_dots k)
+            (mark_implicit (datum_of depth old.values) f d i k (f t) (old.what i) (told_at depth old f d p t holds leads i k has) was)
+            (p ++ k ∷ []) i (leads_put depth old f d p t holds leads new i k Dotted puts has table refl key),
+      )
 
   pub dots_found : (new : Row) (i s : ℕ) → HasKey old i t k → s ≡ i
       → ((old.what i ≡ Dotted) × (new ≡ old)) ⊎ ((old.what i ≡ Implicit) × Puts old new i Dotted)
@@ -270,15 +275,16 @@ module _ (depth : ℕ) (old : Row) (f : ℕ → Nodes) (d : ℕ → Items) (p : 
   pub path_over : (walk : Edit → Edit) → ((edit : Edit) (ns : Nodes) → walk edit ns ≡ edit ns)
       → Keeps old old × Entered depth old (p ++ []) t (λ top. (edit : Edit) → along_header p (walk edit) (f 0) ≡ along_header (p ++ []) edit top)
   path_over walk same =
-      let P : List (List ℕ) → Type 0 = λ q. Leads old q t in
-      ((λ q s there. there),
-      record {
-        tables = f;
-        elements = d;
-        holds = holds;
-        leads = subst P (sym (append-nil p)) leads;
-        is = λ edit. along_same p (walk edit) edit (same edit) (f 0) ∙ ap (λ q. along_header q edit (f 0)) (sym (append-nil p));
-      })
+      let P : List (List ℕ) → Type 0 = λ q. Leads old q t in (
+        (λ q s there. there),
+        record {
+          tables = f;
+          elements = d;
+          holds = holds;
+          leads = subst P (sym (append-nil p)) leads;
+          is = λ edit. along_same p (walk edit) edit (same edit) (f 0) ∙ ap (λ q. along_header q edit (f 0)) (sym (append-nil p));
+        },
+      )
 
   pub header_over : (path : List (List ℕ)) → path ≡ []
       → Keeps old old × Entered depth old (p ++ path) t (λ top. (edit : Edit) → along_header p (along_header path edit) (f 0) ≡ along_header (p ++ path) edit top)
@@ -303,15 +309,16 @@ pub path_more : (depth : ℕ) (old mid new : Row) (p : List (List ℕ)) (k : Lis
 path_more depth old mid new p k rest s r top mark walk walk_rest step_law keeps e after =
     let a = after.1 in
     let joined : (p ++ k ∷ []) ++ rest ≡ p ++ k ∷ rest = append_assoc p (k ∷ []) rest in
-    let P : List (List ℕ) → Type 0 = λ q. Leads new q r in
-    ((λ q m there. after.0 q m (keeps q m there)),
-    record {
-      tables = a.tables;
-      elements = a.elements;
-      holds = a.holds;
-      leads = subst P joined a.leads;
-      is = λ edit. step_law edit top (e.tables 0) e.is ∙ a.is edit ∙ ap (λ q. along_header q edit (a.tables 0)) joined;
-    })
+    let P : List (List ℕ) → Type 0 = λ q. Leads new q r in (
+      (λ q m there. after.0 q m (keeps q m there)),
+      record {
+        tables = a.tables;
+        elements = a.elements;
+        holds = a.holds;
+        leads = subst P joined a.leads;
+        is = λ edit. step_law edit top (e.tables 0) e.is ∙ a.is edit ∙ ap (λ q. along_header q edit (a.tables 0)) joined;
+      },
+    )
 
 pub header_rest : (depth : ℕ) (old mid new : Row) (p : List (List ℕ)) (k : List ℕ) (rest path : List (List ℕ)) (s r : ℕ) (top : Nodes) → path ≡ k ∷ rest
     → Keeps old mid → (e : Entered depth mid (p ++ k ∷ []) s (λ to. along_header p (mark_header k) top ≡ Some to))
@@ -320,7 +327,7 @@ pub header_rest : (depth : ℕ) (old mid new : Row) (p : List (List ℕ)) (k : L
 header_rest depth old mid new p k rest path s r top is keeps e after =
     let P : List (List ℕ) → Type 0 = λ q. Keeps old new × Entered depth new (p ++ q) r (λ to. (edit : Edit) → along_header p (along_header q edit) top ≡ along_header (p ++ q) edit to) in
     subst P (sym is) (path_more depth old mid new p k rest s r top (mark_header k) (along_header (k ∷ rest)) (along_header rest)
-      (λ edit from to marked. header_more p k rest edit from to marked) keeps e after)
+    (λ edit from to marked. header_more p k rest edit from to marked) keeps e after)
 
 pub dots_rest : (depth : ℕ) (old mid new : Row) (p : List (List ℕ)) (k : List ℕ) (rest path : List (List ℕ)) (s r : ℕ) (top : Nodes) → path ≡ k ∷ rest
     → Keeps old mid → (e : Entered depth mid (p ++ k ∷ []) s (λ to. along_header p (mark_dots k) top ≡ Some to))
@@ -329,4 +336,4 @@ pub dots_rest : (depth : ℕ) (old mid new : Row) (p : List (List ℕ)) (k : Lis
 dots_rest depth old mid new p k rest path s r top is keeps e after =
     let P : List (List ℕ) → Type 0 = λ q. Keeps old new × Entered depth new (p ++ q) r (λ to. (edit : Edit) → along_header p (along_dots q edit) top ≡ along_header (p ++ q) edit to) in
     subst P (sym is) (path_more depth old mid new p k rest s r top (mark_dots k) (along_dots (k ∷ rest)) (along_dots rest)
-      (λ edit from to marked. dots_more p k rest edit from to marked) keeps e after)
+    (λ edit from to marked. dots_more p k rest edit from to marked) keeps e after)

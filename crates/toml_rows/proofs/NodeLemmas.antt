@@ -21,9 +21,9 @@ same_key-not k l h = elim (cases_Bool (same_key k l)) [ inl same ↦ absurd (h (
 
 pub same_or_not : (k l : List ℕ) → (k ≡ l) ⊎ ¬ (k ≡ l)
 same_or_not k l = elim (cases_Bool (same_key k l)) [
-    | inl same ↦ inl (same_key-is k l same)
-    | inr other ↦ inr (λ e. let both : same_key l l ≡ false = rw e at other in absurd (true≢false (sym (same_key-self l) ∙ both)))
-  ]
+  | inl same ↦ inl (same_key-is k l same)
+  | inr other ↦ inr (λ e. let both : same_key l l ≡ false = rw e at other in absurd (true≢false (sym (same_key-self l) ∙ both)))
+]
 
 -- another key is not changed by a write
 pub get_node-replace_other : (k l : List ℕ) (y : Node) (ns : Nodes) → ¬ (l ≡ k) → get_node l (replace k y ns) ≡ get_node l ns

@@ -48,9 +48,9 @@ row_push parts names values part name same small low high =
 part_set : (parts : List Part) (at : ℕ) (part : Part) (i : ℕ) → at < length parts
     → ((i ≡ at) × (part_at (set parts at part) i ≡ part)) ⊎ ((¬ (i ≡ at)) × (part_at (set parts at part) i ≡ part_at parts i))
 part_set parts at part i low = elim (cases_eq i at) [
-    | inl same ↦ inl (same, ap (part_at (set parts at part)) same ∙ get_or-set_same parts at part no_part low)
-    | inr other ↦ inr (other, get_or-set_other parts at i part no_part other)
-  ]
+  | inl same ↦ inl (same, ap (part_at (set parts at part)) same ∙ get_or-set_same parts at part no_part low)
+  | inr other ↦ inr (other, get_or-set_other parts at i part no_part other)
+]
 
 pub row_put : (parts : List Part) (names values : List (List ℕ)) (at : ℕ) (part : Part) (w : What) → at < length parts
     → part.table ≡ (part_at parts at).table → part.low ≡ (part_at parts at).low → part.high ≡ (part_at parts at).high → part.what ≡ w
@@ -62,17 +62,17 @@ row_put parts names values at part w low table low_is high_is what =
         named = refl;
         values = refl;
         tables = λ i less. elim (part_set parts at part i low) [
-            | inl here ↦ ap (λ (p : Part). p.table) here.1 ∙ table ∙ ap (λ n. (part_at parts n).table) (sym here.0)
-            | inr there ↦ ap (λ (p : Part). p.table) there.1
-          ];
+          | inl here ↦ ap (λ (p : Part). p.table) here.1 ∙ table ∙ ap (λ n. (part_at parts n).table) (sym here.0)
+          | inr there ↦ ap (λ (p : Part). p.table) there.1
+        ];
         names = λ i less. refl;
         whats = λ i less other. ap (λ (p : Part). p.what) (get_or-set_other parts at i part no_part other);
         what = ap (λ (p : Part). p.what) (get_or-set_same parts at part no_part low) ∙ what;
       };
       links = λ i side. elim (part_set parts at part i low) [
-          | inl here ↦ ap (λ p. side_of p side) here.1 ∙ sides side ∙ ap (λ n. side_of (part_at parts n) side) (sym here.0)
-          | inr there ↦ ap (λ p. side_of p side) there.1
-        ];
+        | inl here ↦ ap (λ p. side_of p side) here.1 ∙ sides side ∙ ap (λ n. side_of (part_at parts n) side) (sym here.0)
+        | inr there ↦ ap (λ p. side_of p side) there.1
+      ];
     }
   where
     sides : (side : Bool) → side_of part side ≡ side_of (part_at parts at) side
@@ -89,19 +89,19 @@ row_relink parts names values at high n part low table what link others =
       named = refl;
       values = refl;
       tables = λ i. elim (part_set parts at part i low) [
-          | inl here ↦ ap (λ (p : Part). p.table) here.1 ∙ table ∙ ap (λ n. (part_at parts n).table) (sym here.0)
-          | inr there ↦ ap (λ (p : Part). p.table) there.1
-        ];
+        | inl here ↦ ap (λ (p : Part). p.table) here.1 ∙ table ∙ ap (λ n. (part_at parts n).table) (sym here.0)
+        | inr there ↦ ap (λ (p : Part). p.table) there.1
+      ];
       names = λ i. refl;
       whats = λ i. elim (part_set parts at part i low) [
-          | inl here ↦ ap (λ (p : Part). p.what) here.1 ∙ what ∙ ap (λ n. (part_at parts n).what) (sym here.0)
-          | inr there ↦ ap (λ (p : Part). p.what) there.1
-        ];
+        | inl here ↦ ap (λ (p : Part). p.what) here.1 ∙ what ∙ ap (λ n. (part_at parts n).what) (sym here.0)
+        | inr there ↦ ap (λ (p : Part). p.what) there.1
+      ];
       link = ap (λ p. side_of p high) (get_or-set_same parts at part no_part low) ∙ link;
       links = λ i other apart. elim (part_set parts at part i low) [
-          | inl here ↦ ap (λ p. side_of p other) here.1 ∙ others other (λ e. apart (here.0, e)) ∙ ap (λ n. side_of (part_at parts n) other) (sym here.0)
-          | inr there ↦ ap (λ p. side_of p other) there.1
-        ];
+        | inl here ↦ ap (λ p. side_of p other) here.1 ∙ others other (λ e. apart (here.0, e)) ∙ ap (λ n. side_of (part_at parts n) other) (sym here.0)
+        | inr there ↦ ap (λ p. side_of p other) there.1
+      ];
     }
 
 -- ---- the search after a change
@@ -122,14 +122,16 @@ found_put old new at w puts same found =
     let s = puts.sets in
     let n : new.count ≡ old.count = s.count in
     let key : (i : ℕ) → i < old.count → is_key (new.what i) ≡ is_key (old.what i) = λ i low. elim (cases_eq i at) [
-        | inl here ↦ ap (λ m. is_key (new.what m)) here ∙ ap is_key s.what ∙ sym same ∙ ap (λ m. is_key (old.what m)) (sym here)
-        | inr other ↦ ap is_key (s.whats i low other)
-      ] in
-    let P : ℕ → Type 0 = λ m. IsSearch m (bit_of new) (on_of new) new.link found.0 in
-    (found.0, subst P (sym n) (same_search old.count (bit_of old) (bit_of new) (on_of old) (on_of new) old.link new.link found.0 found.0 found.1
-      (λ i m low. ap₂ (λ t k. key_bit t k m) (s.tables i low) (s.names i low))
-      (λ i low. ap (λ b. b || i == 0) (key i low))
-      (λ i b low. puts.links i b) (λ i low. refl)))
+      | inl here ↦ ap (λ m. is_key (new.what m)) here ∙ ap is_key s.what ∙ sym same ∙ ap (λ m. is_key (old.what m)) (sym here)
+      | inr other ↦ ap is_key (s.whats i low other)
+    ] in
+    let P : ℕ → Type 0 = λ m. IsSearch m (bit_of new) (on_of new) new.link found.0 in (
+      found.0,
+      subst P (sym n) (same_search old.count (bit_of old) (bit_of new) (on_of old) (on_of new) old.link new.link found.0 found.0 found.1
+          (λ i m low. ap₂ (λ t k. key_bit t k m) (s.tables i low) (s.names i low))
+          (λ i low. ap (λ b. b || i == 0) (key i low))
+          (λ i b low. puts.links i b) (λ i low. refl)),
+    )
 
 -- the functions of the old row, below its count
 below : (old new : Row) (t : ℕ) (k : List ℕ) (w : What) (n : ℕ) (level : ℕ → ℕ) → Pushes old new t k w n → IsFoundBy old level
@@ -146,23 +148,25 @@ found_push old new t k w n pushes no_key some found =
     let g = pushes.grows in
     let zero : (old.count == 0) ≡ false = grind (arith, nat_tests) in
     let off : on_of new old.count ≡ false = ap₂ (λ a b. a || b) (ap is_key g.what ∙ no_key) zero in
-    let P : ℕ → Type 0 = λ m. IsSearch m (bit_of new) (on_of new) new.link found.0 in
-    (found.0, subst P (sym g.count)
-      (outside old.count (bit_of new) (on_of new) new.link new.link found.0 (below old new t k w n found.0 pushes found.1) off (λ i b low. refl)))
+    let P : ℕ → Type 0 = λ m. IsSearch m (bit_of new) (on_of new) new.link found.0 in (
+      found.0,
+      subst P (sym g.count)
+          (outside old.count (bit_of new) (on_of new) new.link new.link found.0 (below old new t k w n found.0 pushes found.1) off (λ i b low. refl)),
+    )
 
 module _ (old mid new : Row) (t : ℕ) (k : List ℕ) (w : What) (n at : ℕ) (high : Bool) (pushes : Pushes old mid t k w n) (relinks : Relinks mid new at high n) where
   grows_link : Grows old new t k w
   grows_link = let g = pushes.grows in record {
-      count = relinks.count ∙ g.count;
-      named = relinks.named ∙ g.named;
-      values = relinks.values ∙ g.values;
-      tables = λ i low. relinks.tables i ∙ g.tables i low;
-      names = λ i low. relinks.names i ∙ g.names i low;
-      whats = λ i low. relinks.whats i ∙ g.whats i low;
-      table = relinks.tables old.count ∙ g.table;
-      name = relinks.names old.count ∙ g.name;
-      what = relinks.whats old.count ∙ g.what;
-    }
+    count = relinks.count ∙ g.count;
+    named = relinks.named ∙ g.named;
+    values = relinks.values ∙ g.values;
+    tables = λ i low. relinks.tables i ∙ g.tables i low;
+    names = λ i low. relinks.names i ∙ g.names i low;
+    whats = λ i low. relinks.whats i ∙ g.whats i low;
+    table = relinks.tables old.count ∙ g.table;
+    name = relinks.names old.count ∙ g.name;
+    what = relinks.whats old.count ∙ g.what;
+  }
 
   module _ (level : ℕ → ℕ) (found : IsFoundBy old level) (seat : IsFree old level t k at high) (key : is_key w ≡ true) where
     level' : ℕ → ℕ
@@ -180,35 +184,35 @@ module _ (old mid new : Row) (t : ℕ) (k : List ℕ) (w : What) (n at : ℕ) (h
         let bits_new : (m : ℕ) → bit_of new old.count m ≡ key_bit t k m = λ m. ap₂ (λ t k. key_bit t k m) g.table g.name in
         let ons : (i : ℕ) → i < old.count → on_of new i ≡ on_of old i = λ i low. ap (λ w. is_key w || i == 0) (g.whats i low) in
         let h : IsSearch old.count (bit_of new) (on_of new) mid.link level' =
-            same_search old.count (bit_of old) (bit_of new) (on_of old) (on_of new) old.link mid.link level level' found bits ons
-            (λ i b low. pushes.links i b low) levels in
+        same_search old.count (bit_of old) (bit_of new) (on_of old) (on_of new) old.link mid.link level level' found bits ons
+        (λ i b low. pushes.links i b low) levels in
         let side : bit_of new old.count seat.turn ≡ high = bits_new seat.turn ∙ sym seat.side in
         let at_new : IsAt old.count (bit_of new) (on_of new) mid.link level' (bit_of new old.count) at seat.turn = record {
-              within = at_low;
-              on_it = ons at at_low ∙ here.on_it;
-              turns = levels at at_low ∙ here.turns;
-              agree = λ m low. bits at m at_low ∙ here.agree m low ∙ sym (bits_new m);
-            } in
+          within = at_low;
+          on_it = ons at at_low ∙ here.on_it;
+          turns = levels at at_low ∙ here.turns;
+          agree = λ m low. bits at m at_low ∙ here.agree m low ∙ sym (bits_new m);
+        } in
         let number : n ≡ old.count = pushes.number in
         let small : old.count < none = let a = pushes.small in let gp = pushes.grows in omega (arith, gp.count) in
         let all = added old.count (bit_of new) (on_of new) mid.link new.link level' h at seat.turn at_new
-            (ap (mid.link at) side ∙ pushes.links at high at_low ∙ seat.free)
-            small
-            (key_on new old.count (ap is_key g.what ∙ key))
-            (put_at-same old.count (level at + 1) level old.count refl ∙ ap (λ m. m + 1) (sym (levels at at_low)))
-            (λ b. relinks.links old.count b (λ both. not_new at at_low (sym both.0)) ∙ pushes.ends b)
-            (ap (new.link at) side ∙ relinks.link ∙ number)
-            (λ v b low apart. relinks.links v b (λ both. apart (both.0, both.1 ∙ sym side))) in
+        (ap (mid.link at) side ∙ pushes.links at high at_low ∙ seat.free)
+        small
+        (key_on new old.count (ap is_key g.what ∙ key))
+        (put_at-same old.count (level at + 1) level old.count refl ∙ ap (λ m. m + 1) (sym (levels at at_low)))
+        (λ b. relinks.links old.count b (λ both. not_new at at_low (sym both.0)) ∙ pushes.ends b)
+        (ap (new.link at) side ∙ relinks.link ∙ number)
+        (λ v b low apart. relinks.links v b (λ both. apart (both.0, both.1 ∙ sym side))) in
         let P : ℕ → Type 0 = λ m. IsSearch m (bit_of new) (on_of new) new.link level' in
         (level', subst P (sym g.count) all)
 
     pub row_add : Adds old new t k w n
     row_add = record {
-        number = pushes.number;
-        small = rw relinks.count pushes.small;
-        grows = grows_link;
-        found = found_add;
-      }
+      number = pushes.number;
+      small = rw relinks.count pushes.small;
+      grows = grows_link;
+      found = found_add;
+    }
 
 -- the search, at the root
 pub found_root : (row : Row) (level : ℕ → ℕ) → IsFoundBy row level → (t : ℕ) (k : List ℕ)
@@ -228,25 +232,27 @@ found_before row level found t k at turn j here has less =
 pub found_next : (row : Row) (level : ℕ → ℕ) → IsFoundBy row level → (t : ℕ) (k : List ℕ) (at turn : ℕ)
     → IsAt row.count (bit_of row) (on_of row) row.link level (key_bit t k) at turn → ¬ (row.link at (key_bit t k turn) ≡ none)
     → IsAt row.count (bit_of row) (on_of row) row.link level (key_bit t k) (row.link at (key_bit t k turn)) (turn + 1)
-      × (at < row.link at (key_bit t k turn)) × (is_key (row.what (row.link at (key_bit t k turn))) ≡ true)
+    × (at < row.link at (key_bit t k turn)) × (is_key (row.what (row.link at (key_bit t k turn))) ≡ true)
 found_next row level found t k at turn here some =
     let l = found.linked at (key_bit t k turn) here.within here.on_it some in
-    let later = l.later in
-    (at_next row.count (bit_of row) (on_of row) row.link level found (key_bit t k) at turn here some, l.later,
-    on_key row (row.link at (key_bit t k turn)) l.on_it (omega arith))
+    let later = l.later in (
+      at_next row.count (bit_of row) (on_of row) row.link level found (key_bit t k) at turn here some,
+      l.later,
+      on_key row (row.link at (key_bit t k turn)) l.on_it (omega arith),
+    )
 
 -- ---- the loop of the search
 
 module _ (row : Row) (level : ℕ → ℕ) (found : IsFoundBy row level) (t : ℕ) (k : List ℕ) where
   pub turn_first : is_key (row.what 0) ≡ false → IsTurn row level t k 0 0
   turn_first root = record {
-      at_it = found_root row level found t k;
-      rises = omega arith;
-      passed = λ j has. elim (cases_eq j 0) [
-          | inl same ↦ let yes = has.key in let nope : is_key (row.what j) ≡ false = ap (λ i. is_key (row.what i)) same ∙ root in absurd cc
-          | inr other ↦ omega arith
-        ];
-    }
+    at_it = found_root row level found t k;
+    rises = omega arith;
+    passed = λ j has. elim (cases_eq j 0) [
+      | inl same ↦ let yes = has.key in let nope : is_key (row.what j) ≡ false = ap (λ i. is_key (row.what i)) same ∙ root in absurd cc
+      | inr other ↦ omega arith
+    ];
+  }
 
   module _ (at turn : ℕ) (here : IsTurn row level t k at turn) (high : Bool) (next : ℕ) (bit : high ≡ key_bit t k turn) (is : next ≡ row.link at high) where
     next_is : next ≡ row.link at (key_bit t k turn)
@@ -279,12 +285,12 @@ module _ (row : Row) (level : ℕ → ℕ) (found : IsFoundBy row level) (t : �
 
     pub turn_free : next ≡ none → IsFree row level t k at high
     turn_free nope = record {
-        nothing = λ i has. (found_before row level found t k at turn i here.at_it has (here.passed i has)).0 (sym next_is ∙ nope);
-        turn = turn;
-        at_it = here.at_it;
-        side = bit;
-        free = sym is ∙ nope;
-      }
+      nothing = λ i has. (found_before row level found t k at turn i here.at_it has (here.passed i has)).0 (sym next_is ∙ nope);
+      turn = turn;
+      at_it = here.at_it;
+      side = bit;
+      free = sym is ∙ nope;
+    }
 
   pub turn_end : (at turn : ℕ) → IsTurn row level t k at turn → row.count ≤ turn → ⊥
   turn_end at turn here end = let a = here.at_it in let w = a.within in let r = here.rises in absurd (omega arith)
@@ -294,12 +300,14 @@ module _ (row : Row) (level : ℕ → ℕ) (found : IsFoundBy row level) (t : �
 pub found_empty : (row : Row) → IsEmpty row → IsFound row
 found_empty row empty =
     let n : row.count ≡ 1 = empty.count in
-    let zero : (i : ℕ) → i < row.count → i ≡ 0 = λ i low. omega arith in
-    ((λ i. 0), record {
-      some = omega arith;
-      root = ap (λ w. is_key w || true) empty.what;
-      top = refl;
-      linked = λ v b low on some. absurd (some (ap (λ i. row.link i b) (zero v low) ∙ empty.links b));
-      kept = λ v j less within on on' agree. absurd (omega arith);
-      first = λ v w low low' on on' le agree. omega arith;
-    })
+    let zero : (i : ℕ) → i < row.count → i ≡ 0 = λ i low. omega arith in (
+      (λ i. 0),
+      record {
+        some = omega arith;
+        root = ap (λ w. is_key w || true) empty.what;
+        top = refl;
+        linked = λ v b low on some. absurd (some (ap (λ i. row.link i b) (zero v low) ∙ empty.links b));
+        kept = λ v j less within on on' agree. absurd (omega arith);
+        first = λ v w low low' on on' le agree. omega arith;
+      },
+    )

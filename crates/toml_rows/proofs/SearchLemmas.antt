@@ -15,9 +15,9 @@ agree_trans f g h n a b = λ m low. a m low ∙ b m low
 -- one more bit
 pub agree_more : (f g : ℕ → Bool) (n : ℕ) → Agree f g n → f n ≡ g n → Agree f g (n + 1)
 agree_more f g n h last = λ m low. elim (cases_eq m n) [
-    | inl same ↦ rw same last
-    | inr other ↦ h m (omega arith)
-  ]
+  | inl same ↦ rw same last
+  | inr other ↦ h m (omega arith)
+]
 
 module _ (n : ℕ) (bit : ℕ → ℕ → Bool) (on : ℕ → Bool) (link : ℕ → Bool → ℕ) (level : ℕ → ℕ) (h : IsSearch n bit on link level) where
   pub at_root : (key : ℕ → Bool) → IsAt n bit on link level key 0 0
@@ -35,7 +35,7 @@ module _ (n : ℕ) (bit : ℕ → ℕ → Bool) (on : ℕ → Bool) (link : ℕ 
         turns = l.deeper ∙ ap (λ k. k + 1) same;
         agree = agree_more (bit (link at (key turn))) key turn
             (agree_trans (bit (link at (key turn))) (bit at) key turn
-              (agree_sym (bit at) (bit (link at (key turn))) turn (rw same at l.agree)) here.agree)
+            (agree_sym (bit at) (bit (link at (key turn))) turn (rw same at l.agree)) here.agree)
             (rw same at l.side);
       }
 
@@ -61,7 +61,7 @@ pub same_search : (n : ℕ) (bit bit' : ℕ → ℕ → Bool) (on on' : ℕ → 
     → IsSearch n bit' on' link' level'
 same_search n bit bit' on on' link link' level level' h bits ons links levels =
     let agree : (v w k : ℕ) → v < n → w < n → Agree (bit' v) (bit' w) k → Agree (bit v) (bit w) k
-        = λ v w k lv lw a m low. sym (bits v m lv) ∙ a m low ∙ bits w m lw in
+    = λ v w k lv lw a m low. sym (bits v m lv) ∙ a m low ∙ bits w m lw in
     record {
       some = h.some;
       root = ons 0 h.some ∙ h.root;
@@ -96,7 +96,7 @@ module _ (n : ℕ) (bit : ℕ → ℕ → Bool) (on : ℕ → Bool) (link link' 
   pub outside : on n ≡ false → ((i : ℕ) (b : Bool) → i < n → link' i b ≡ link i b) → IsSearch (n + 1) bit on link' level
   outside off links =
       let low : (v : ℕ) → v < n + 1 → on v ≡ true → v < n
-          = λ v less there. elim (cases_eq v n) [ inl same ↦ let e : on n ≡ true = rw same at there in absurd (cc) | inr other ↦ omega arith ] in
+      = λ v less there. elim (cases_eq v n) [ inl same ↦ let e : on n ≡ true = rw same at there in absurd (cc) | inr other ↦ omega arith ] in
       record {
         some = omega arith;
         root = h.root;
@@ -129,14 +129,14 @@ module _ (n : ℕ) (bit : ℕ → ℕ → Bool) (on : ℕ → Bool) (link link' 
           | inr other ↦ elim (cases_lt (level v) (level at)) [
             | inl less ↦
                 let near : Agree (bit v) (bit at) (level v) =
-                    agree_trans (bit v) (bit n) (bit at) (level v) a (agree_sym (bit at) (bit n) (level v) (agree_less (bit at) (bit n) turn (level v) (omega arith) here.agree)) in
+                agree_trans (bit v) (bit n) (bit at) (level v) a (agree_sym (bit at) (bit n) (level v) (agree_less (bit at) (bit n) turn (level v) (omega arith) here.agree)) in
                 let le = h.first v at low here.within there here.on_it (omega arith) near in
                 let k = h.kept v at (omega arith) here.within there here.on_it near in
                 k.0 (ap (link v) (here.agree (level v) (omega arith)) ∙ none_there)
             | inr more ↦
                 let near : Agree (bit at) (bit v) (level at) =
-                    agree_trans (bit at) (bit n) (bit v) (level at) (rw turns here.agree)
-                      (agree_sym (bit v) (bit n) (level at) (agree_less (bit v) (bit n) (level v) (level at) more a)) in
+                agree_trans (bit at) (bit n) (bit v) (level at) (rw turns here.agree)
+                (agree_sym (bit v) (bit n) (level at) (agree_less (bit v) (bit n) (level v) (level at) more a)) in
                 let le = h.first at v here.within low here.on_it there more near in
                 elim (cases_eq (level v) (level at)) [
                   | inl tie ↦
@@ -154,9 +154,9 @@ module _ (n : ℕ) (bit : ℕ → ℕ → Bool) (on : ℕ → Bool) (link link' 
         (others : (v : ℕ) (b : Bool) → v < n → ¬ ((v ≡ at) × (b ≡ bit n turn)) → link' v b ≡ link v b) where
       split : (v : ℕ) (b : Bool) → ((v ≡ at) × (b ≡ bit n turn)) ⊎ ¬ ((v ≡ at) × (b ≡ bit n turn))
       split v b = elim (cases_eq v at) [
-          | inl same ↦ elim (same_bool b (bit n turn)) [ inl is ↦ inl (same, is) | inr not ↦ inr (λ both. not both.1) ]
-          | inr other ↦ inr (λ both. other both.0)
-        ]
+        | inl same ↦ elim (same_bool b (bit n turn)) [ inl is ↦ inl (same, is) | inr not ↦ inr (λ both. not both.1) ]
+        | inr other ↦ inr (λ both. other both.0)
+      ]
 
       -- one more part, at its seat
       pub added : IsSearch (n + 1) bit on link' level
@@ -167,34 +167,34 @@ module _ (n : ℕ) (bit : ℕ → ℕ → Bool) (on : ℕ → Bool) (link link' 
             root = h.root;
             top = h.top;
             linked = λ v b less there some. elim (cases_eq v n) [
-                | inl same ↦ absurd (some (ap (λ i. link' i b) same ∙ ends b))
-                | inr older ↦ elim (split v b) [
-                  | inl both ↦
-                      let e : link' v b ≡ n = ap (λ i. link' i b) both.0 ∙ ap (link' at) both.1 ∙ to_new in
-                      let lv : level v ≡ level at = ap level both.0 in
-                      let w = here.within in
-                      record {
-                        later = let is = both.0 in rw e (omega arith);
-                        within = rw e (omega arith);
-                        on_it = rw e on_new;
-                        deeper = rw (e, lv) below;
-                        agree = rw (e, both.0, turns) here.agree;
-                        side = rw (e, lv, turns) (sym both.1);
-                      }
-                  | inr apart ↦
-                      let low : v < n = omega arith in
-                      let e : link' v b ≡ link v b = others v b low apart in
-                      let l = h.linked v b low there (λ none. some (e ∙ none)) in
-                      record {
-                        later = rw e l.later;
-                        within = let w = l.within in rw e (omega arith);
-                        on_it = rw e l.on_it;
-                        deeper = rw e l.deeper;
-                        agree = rw e l.agree;
-                        side = rw e l.side;
-                      }
-                ]
-              ];
+              | inl same ↦ absurd (some (ap (λ i. link' i b) same ∙ ends b))
+              | inr older ↦ elim (split v b) [
+                | inl both ↦
+                    let e : link' v b ≡ n = ap (λ i. link' i b) both.0 ∙ ap (link' at) both.1 ∙ to_new in
+                    let lv : level v ≡ level at = ap level both.0 in
+                    let w = here.within in
+                    record {
+                      later = let is = both.0 in rw e (omega arith);
+                      within = rw e (omega arith);
+                      on_it = rw e on_new;
+                      deeper = rw (e, lv) below;
+                      agree = rw (e, both.0, turns) here.agree;
+                      side = rw (e, lv, turns) (sym both.1);
+                    }
+                | inr apart ↦
+                    let low : v < n = omega arith in
+                    let e : link' v b ≡ link v b = others v b low apart in
+                    let l = h.linked v b low there (λ none. some (e ∙ none)) in
+                    record {
+                      later = rw e l.later;
+                      within = let w = l.within in rw e (omega arith);
+                      on_it = rw e l.on_it;
+                      deeper = rw e l.deeper;
+                      agree = rw e l.agree;
+                      side = rw e l.side;
+                    }
+              ]
+            ];
             kept = λ v j less within there other a.
                 let low : v < n = omega arith in
                 elim (split v (bit j (level v))) [
@@ -222,21 +222,21 @@ module _ (n : ℕ) (bit : ℕ → ℕ → Bool) (on : ℕ → Bool) (link link' 
                       ]
                 ];
             first = λ v w less less' there other le a. elim (cases_eq w n) [
-                | inl same ↦ omega arith
-                | inr older ↦ elim (cases_eq v n) [
-                  | inl same ↦
-                      let deeper : level v ≡ level n = ap level same in
-                      let a' : Agree (bit n) (bit w) (level n) = rw same at a in
-                      let near : Agree (bit at) (bit w) (level at) =
-                          agree_trans (bit at) (bit n) (bit w) (level at) (rw turns here.agree) (agree_less (bit n) (bit w) (level n) (level at) (omega arith) a') in
-                      let before = h.first at w here.within (omega arith) here.on_it other (omega arith) near in
-                      elim (cases_eq at w) [
-                        | inl tie ↦ let deep : level at ≡ level w = ap level tie in absurd (omega arith)
-                        | inr apart ↦
-                            let k = h.kept at w (omega arith) (omega arith) here.on_it other near in
-                            absurd (k.0 (ap (link at) (sym (a' (level at) (omega arith)) ∙ ap (bit n) turns) ∙ free))
-                      ]
-                  | inr old ↦ h.first v w (omega arith) (omega arith) there other le a
-                ]
-              ];
+              | inl same ↦ omega arith
+              | inr older ↦ elim (cases_eq v n) [
+                | inl same ↦
+                    let deeper : level v ≡ level n = ap level same in
+                    let a' : Agree (bit n) (bit w) (level n) = rw same at a in
+                    let near : Agree (bit at) (bit w) (level at) =
+                    agree_trans (bit at) (bit n) (bit w) (level at) (rw turns here.agree) (agree_less (bit n) (bit w) (level n) (level at) (omega arith) a') in
+                    let before = h.first at w here.within (omega arith) here.on_it other (omega arith) near in
+                    elim (cases_eq at w) [
+                      | inl tie ↦ let deep : level at ≡ level w = ap level tie in absurd (omega arith)
+                      | inr apart ↦
+                          let k = h.kept at w (omega arith) (omega arith) here.on_it other near in
+                          absurd (k.0 (ap (link at) (sym (a' (level at) (omega arith)) ∙ ap (bit n) turns) ∙ free))
+                    ]
+                | inr old ↦ h.first v w (omega arith) (omega arith) there other le a
+              ]
+            ];
           }

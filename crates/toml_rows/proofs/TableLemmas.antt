@@ -25,9 +25,9 @@ put_at-other at x f i other = let e : (i == at) ≡ false = grind (arith, nat_te
 -- a fact of each answer
 pub put_at-all : {X : Type 0} (P : X → Type 0) (at : ℕ) (x : X) (f : ℕ → X) → P x → ((i : ℕ) → P (f i)) → (i : ℕ) → P (put_at at x f i)
 put_at-all P at x f here all i = elim (cases_eq i at) [
-    | inl same ↦ subst P (sym (put_at-same at x f i same)) here
-    | inr other ↦ subst P (sym (put_at-other at x f i other)) (all i)
-  ]
+  | inl same ↦ subst P (sym (put_at-same at x f i same)) here
+  | inr other ↦ subst P (sym (put_at-other at x f i other)) (all i)
+]
 
 pub key_if_open : (w : What) → is_open w ≡ true → is_key w ≡ true
 key_if_open (Value v) h = refl
@@ -131,15 +131,15 @@ module _ (row : Row) (tree : IsTree row) where
 
   pub inside_within : (i : ℕ) → i < row.count → inside i (row.what i) < row.count
   inside_within i low = elim (inside_cases i (row.what i)) [
-      | inl own ↦ omega arith
-      | inr other ↦ (tree.last i (inside i (row.what i)) low other).0
-    ]
+    | inl own ↦ omega arith
+    | inr other ↦ (tree.last i (inside i (row.what i)) low other).0
+  ]
 
   pub inside_after : (i : ℕ) → i < row.count → i ≤ inside i (row.what i)
   inside_after i low = elim (inside_cases i (row.what i)) [
-      | inl own ↦ omega arith
-      | inr other ↦ let h = (tree.last i (inside i (row.what i)) low other).3 in omega arith
-    ]
+    | inl own ↦ omega arith
+    | inr other ↦ let h = (tree.last i (inside i (row.what i)) low other).3 in omega arith
+  ]
 
   pub leads_within : {p : List (List ℕ)} {t : ℕ} → Leads row p t → t < row.count
   leads_within at_root = tree.some
@@ -169,9 +169,9 @@ module _ (datum : ℕ → Data) (row : Row) (tree : IsTree row) (d : ℕ → Ite
   -- elements that are done are the same if the tables are
   done_same : (f g : ℕ → Nodes) (b : ℕ) → (¬ (b ≡ none) → f b ≡ g b) → done_of datum f d b ≡ done_of datum g d b
   done_same f g b h = elim (cases_eq b none) [
-      | inl is ↦ let e : (b == none) ≡ true = grind (arith, nat_tests) in rw e
-      | inr other ↦ let e : (b == none) ≡ false = grind (arith, nat_tests) in rw (e, h other)
-    ]
+    | inl is ↦ let e : (b == none) ≡ true = grind (arith, nat_tests) in rw e
+    | inr other ↦ let e : (b == none) ≡ false = grind (arith, nat_tests) in rw (e, h other)
+  ]
 
   -- one table differs inside the keys: the same one level higher
   up : {t : ℕ} {p : List (List ℕ)} → Leads row p t → (i : ℕ) (k : List ℕ) → HasKey row i t k → is_open (row.what i) ≡ true → (f g : ℕ → Nodes)
@@ -182,36 +182,36 @@ module _ (datum : ℕ → Data) (row : Row) (tree : IsTree row) (d : ℕ → Ite
       let node = node_of datum f d i (row.what i) in
       let here : put_at t (replace k node (f t)) f t ≡ replace k node (f t) = put_at-same t (replace k node (f t)) f t refl in
       let apart : (j s : ℕ) (l : List ℕ) → HasKey row j s l → ¬ (j ≡ i) → node_of datum g d j (row.what j) ≡ node_of datum f d j (row.what j)
-          = λ j s l has' other. node_same datum g f d j (row.what j)
-            (sym (same (inside j (row.what j)) (λ is. other (inside_one row tree j i has'.within has.within has'.key has.key is)))) in
+      = λ j s l has' other. node_same datum g f d j (row.what j)
+      (sym (same (inside j (row.what j)) (λ is. other (inside_one row tree j i has'.within has.within has'.key has.key is)))) in
       record {
         there = λ j s l has'. elim (cases_eq s t) [
-            | inl at ↦
-                let e : put_at t (replace k node (f t)) f s ≡ replace k node (f t) = put_at-same t (replace k node (f t)) f s at in
-                let has_t : HasKey row j t l = rw at at has' in
-                elim (cases_eq j i) [
-                  | inl is ↦
-                      let name : l ≡ k = sym has'.name ∙ ap row.name is ∙ has.name in
-                      ap (get_node l) e ∙ ap (λ m. get_node m (replace k node (f t))) name
-                      ∙ get_node-replace k node (f t) _ (told.there i t k has)
-                      ∙ ap (λ m. Some (node_of datum f d m (row.what m))) (sym is)
-                  | inr other ↦
-                      let names : ¬ (l ≡ k) = λ e'. other (tree.only j i t k (rw e' at has_t) has) in
-                      ap (get_node l) e ∙ get_node-replace_other k l node (f t) names ∙ told.there j t l has_t
-                      ∙ ap Some (apart j t l has_t other)
-                ]
-            | inr elsewhere ↦
-                ap (get_node l) (put_at-other t (replace k node (f t)) f s elsewhere) ∙ told.there j s l has'
-                ∙ ap Some (apart j s l has' (λ is. elsewhere (sym has'.table ∙ ap row.table is ∙ has.table)))
-          ];
+          | inl at ↦
+              let e : put_at t (replace k node (f t)) f s ≡ replace k node (f t) = put_at-same t (replace k node (f t)) f s at in
+              let has_t : HasKey row j t l = rw at at has' in
+              elim (cases_eq j i) [
+                | inl is ↦
+                    let name : l ≡ k = sym has'.name ∙ ap row.name is ∙ has.name in
+                    ap (get_node l) e ∙ ap (λ m. get_node m (replace k node (f t))) name
+                    ∙ get_node-replace k node (f t) _ (told.there i t k has)
+                    ∙ ap (λ m. Some (node_of datum f d m (row.what m))) (sym is)
+                | inr other ↦
+                    let names : ¬ (l ≡ k) = λ e'. other (tree.only j i t k (rw e' at has_t) has) in
+                    ap (get_node l) e ∙ get_node-replace_other k l node (f t) names ∙ told.there j t l has_t
+                    ∙ ap Some (apart j t l has_t other)
+              ]
+          | inr elsewhere ↦
+              ap (get_node l) (put_at-other t (replace k node (f t)) f s elsewhere) ∙ told.there j s l has'
+              ∙ ap Some (apart j s l has' (λ is. elsewhere (sym has'.table ∙ ap row.table is ∙ has.table)))
+        ];
         gone = λ s l none_there. elim (cases_eq s t) [
-            | inl at ↦
-                let e : put_at t (replace k node (f t)) f s ≡ replace k node (f t) = put_at-same t (replace k node (f t)) f s at in
-                let none_t : (j : ℕ) → ¬ HasKey row j t l = rw at at none_there in
-                let names : ¬ (l ≡ k) = λ e'. none_t i (rw e' has) in
-                ap (get_node l) e ∙ get_node-replace_other k l node (f t) names ∙ told.gone t l none_t
-            | inr elsewhere ↦ ap (get_node l) (put_at-other t (replace k node (f t)) f s elsewhere) ∙ told.gone s l none_there
-          ];
+          | inl at ↦
+              let e : put_at t (replace k node (f t)) f s ≡ replace k node (f t) = put_at-same t (replace k node (f t)) f s at in
+              let none_t : (j : ℕ) → ¬ HasKey row j t l = rw at at none_there in
+              let names : ¬ (l ≡ k) = λ e'. none_t i (rw e' has) in
+              ap (get_node l) e ∙ get_node-replace_other k l node (f t) names ∙ told.gone t l none_t
+          | inr elsewhere ↦ ap (get_node l) (put_at-other t (replace k node (f t)) f s elsewhere) ∙ told.gone s l none_there
+        ];
         sorted = put_at-all IsOrdered t (replace k node (f t)) f (ordered-replace k node (f t) (told.sorted t)) told.sorted;
         done = λ e b low is. told.done e b low is ∙ done_same g f b (λ some. sym (same b (alive e b low is some)));
       }
@@ -244,9 +244,9 @@ module _ (datum : ℕ → Data) (row : Row) (tree : IsTree row) (d : ℕ → Ite
             along_append p (k ∷ []) edit (g 0)
             ∙ ap (along_header p (along_header (k ∷ []) edit)) (sym (same 0 (λ is. inside_root row tree i has.within has.key (sym is))))
             ∙ above.edits (along_header (k ∷ []) edit)
-              (along_found k [] edit (f t) (node_of datum g d i (row.what i)) (told.there i t k has)
-              ∙ ap (option_map (λ new. replace k new (f t))) (header_step datum g f d i (row.what i) edit opens h)
-              ∙ ap Some (sym (put_at-same t (replace k node (f t)) f t refl)));
+            (along_found k [] edit (f t) (node_of datum g d i (row.what i)) (told.there i t k has)
+            ∙ ap (option_map (λ new. replace k new (f t))) (header_step datum g f d i (row.what i) edit opens h)
+            ∙ ap Some (sym (put_at-same t (replace k node (f t)) f t refl)));
       }
 
   -- an edit that the rules refuse
@@ -257,8 +257,8 @@ module _ (datum : ℕ → Data) (row : Row) (tree : IsTree row) (d : ℕ → Ite
   fall (step {p} {t} i k leads has opens) f told edit h =
       along_append p (k ∷ []) edit (f 0)
       ∙ fall leads f told (along_header (k ∷ []) edit)
-        (along_found k [] edit (f t) (node_of datum f d i (row.what i)) (told.there i t k has)
-        ∙ ap (option_map (λ new. replace k new (f t))) (header_stop datum f d i (row.what i) edit opens h))
+      (along_found k [] edit (f t) (node_of datum f d i (row.what i)) (told.there i t k has)
+      ∙ ap (option_map (λ new. replace k new (f t))) (header_stop datum f d i (row.what i) edit opens h))
 
   -- edits that agree at the end of the path agree from the root
   pub agree : {p : List (List ℕ)} {t : ℕ} → Leads row p t → (f : ℕ → Nodes) → IsTold datum row f f d → (e e' : Edit) → e (f t) ≡ e' (f t)
@@ -269,7 +269,7 @@ module _ (datum : ℕ → Data) (row : Row) (tree : IsTree row) (d : ℕ → Ite
       let node = node_of datum f d i (row.what i) in
       along_append p (k ∷ []) e (f 0)
       ∙ agree leads f told (along_header (k ∷ []) e) (along_header (k ∷ []) e')
-        (along_found k [] e (f t) node (told.there i t k has)
-        ∙ ap (option_map (λ new. replace k new (f t))) (header_agree datum f d i (row.what i) e e' opens h)
-        ∙ sym (along_found k [] e' (f t) node (told.there i t k has)))
+      (along_found k [] e (f t) node (told.there i t k has)
+      ∙ ap (option_map (λ new. replace k new (f t))) (header_agree datum f d i (row.what i) e e' opens h)
+      ∙ sym (along_found k [] e' (f t) node (told.there i t k has)))
       ∙ sym (along_append p (k ∷ []) e' (f 0))

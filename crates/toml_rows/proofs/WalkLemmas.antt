@@ -63,15 +63,20 @@ module _ (depth : ℕ) (row : Row) (t : ℕ) (ms : Members) (is : IsTable depth 
         (data_at depth text.now, refl, key_at (Value v) w ∙ ap (λ x. Some (data_at depth x)) (sym same))
     get_found (Some (found.Table s)) (number, is_it) =
         let data_is : Some (close_node (node_of (datum_of depth row.values) is.tables is.elements i (row.what i))) ≡ Some (table (close (is.tables s))) =
-            ap Some (table_data (datum_of depth row.values) is.tables is.elements (row.what i) is_it) ∙ ap (λ n. Some (table (close (is.tables n)))) (sym number) in
-        (table (close (is.tables s)),
-        (close (is.tables s), record { tables = is.tables; elements = is.elements; holds = is.holds; members = refl }, refl),
-        key_at (row.what i) refl ∙ data_is)
-    get_found (Some (found.Tables last)) w =
-        (array (push_item (is.elements last) (table (close (is.tables last)))),
-        (push_item (is.elements last) (table (close (is.tables last))),
-          record { tables = is.tables; elements = is.elements; holds = is.holds; owner = i; within = has.within; owns = w; items = refl }, refl),
-        key_at (Tables last) w)
+        ap Some (table_data (datum_of depth row.values) is.tables is.elements (row.what i) is_it) ∙ ap (λ n. Some (table (close (is.tables n)))) (sym number) in (
+          table (close (is.tables s)),
+          (close (is.tables s), record { tables = is.tables; elements = is.elements; holds = is.holds; members = refl }, refl),
+          key_at (row.what i) refl ∙ data_is,
+        )
+    get_found (Some (found.Tables last)) w = (
+      array (push_item (is.elements last) (table (close (is.tables last)))),
+      (
+        push_item (is.elements last) (table (close (is.tables last))),
+        record { tables = is.tables; elements = is.elements; holds = is.holds; owner = i; within = has.within; owns = w; items = refl },
+        refl,
+      ),
+      key_at (Tables last) w,
+    )
 
 -- ---- the first name that is not known
 
@@ -81,9 +86,9 @@ not_less k h = let same = tied_itself nat_list_cmp_total k in cc
 -- what is not among all nodes is not among the rest
 rest_none : (k l : List ℕ) (x : Node) (ns : Nodes) → get_node l (node k x ns) ≡ None → get_node l ns ≡ None
 rest_none k l x ns h = elim (cases_Bool (same_key l k)) [
-    | inl same ↦ absurd (none-some x (sym (rw same at h)))
-    | inr other ↦ rw other at h
-  ]
+  | inl same ↦ absurd (none-some x (sym (rw same at h)))
+  | inr other ↦ rw other at h
+]
 
 node_here : (k : List ℕ) (x : Node) (ns : Nodes) → get_node k (node k x ns) ≡ Some x
 node_here k x ns = rw (same_key-self k)
@@ -91,42 +96,42 @@ node_here k x ns = rw (same_key-self k)
 pub after_has : (k n : List ℕ) (x : Node) (ns : Nodes) → AreAfter k ns → get_node n ns ≡ Some x → order k n ≡ Less
 after_has k n x no_nodes after h = absurd (none-some x h)
 after_has k n x (node l y ns) after h = elim (cases_Bool (same_key n l)) [
-    | inl same ↦ let e : n ≡ l = same_key-is n l same in rw e after.0
-    | inr other ↦ after_has k n x ns after.1 (rw other at h)
-  ]
+  | inl same ↦ let e : n ≡ l = same_key-is n l same in rw e after.0
+  | inr other ↦ after_has k n x ns after.1 (rw other at h)
+]
 
 module _ (known : List ℕ → Bool) where
   none_unknown : (ns : Nodes) → ((k : List ℕ) → known k ≡ false → get_node k ns ≡ None) → first_unknown known (close ns) ≡ None
   none_unknown no_nodes all = refl
   none_unknown (node k x ns) all = elim (cases_Bool (known k)) [
-      | inl yes_known ↦ rw yes_known (none_unknown ns (λ l un. rest_none k l x ns (all l un)))
-      | inr unknown ↦ absurd (none-some x (sym (all k unknown) ∙ node_here k x ns))
-    ]
+    | inl yes_known ↦ rw yes_known (none_unknown ns (λ l un. rest_none k l x ns (all l un)))
+    | inr unknown ↦ absurd (none-some x (sym (all k unknown) ∙ node_here k x ns))
+  ]
 
   some_unknown : (n : List ℕ) (x : Node) (ns : Nodes) → IsOrdered ns → known n ≡ false → get_node n ns ≡ Some x
       → ((k : List ℕ) → known k ≡ false → order k n ≡ Less → get_node k ns ≡ None) → first_unknown known (close ns) ≡ Some n
   some_unknown n x no_nodes ordered unknown h all = absurd (none-some x h)
   some_unknown n x (node k y ns) ordered unknown h all = elim (cases_Bool (same_key n k)) [
-      | inl same ↦
-          let e : n ≡ k = same_key-is n k same in
-          let here : known k ≡ false = rw e at unknown in
-          rw here (ap Some (sym e))
-      | inr other ↦
-          let later : get_node n ns ≡ Some x = rw other at h in
-          let less = after_has k n x ns ordered.0 later in
-          elim (cases_Bool (known k)) [
-            | inl yes_known ↦
-                rw yes_known (some_unknown n x ns ordered.1 unknown later (λ l un before. rest_none k l y ns (all l un before)))
-            | inr un ↦ absurd (none-some y (sym (all k un less) ∙ node_here k y ns))
-          ]
-    ]
+    | inl same ↦
+        let e : n ≡ k = same_key-is n k same in
+        let here : known k ≡ false = rw e at unknown in
+        rw here (ap Some (sym e))
+    | inr other ↦
+        let later : get_node n ns ≡ Some x = rw other at h in
+        let less = after_has k n x ns ordered.0 later in
+        elim (cases_Bool (known k)) [
+          | inl yes_known ↦
+              rw yes_known (some_unknown n x ns ordered.1 unknown later (λ l un before. rest_none k l y ns (all l un before)))
+          | inr un ↦ absurd (none-some y (sym (all k un less) ∙ node_here k y ns))
+        ]
+  ]
 
   module _ (depth : ℕ) (row : Row) (t : ℕ) (ms : Members) (is : IsTable depth row t ms) where
     named : (i : ℕ) (k : List ℕ) → HasKey row i t k → known k ≡ false → IsUnknown row t known i
     named i k has un = record {
-        has = record { within = has.within; key = has.key; table = has.table; name = refl };
-        unknown = ap known has.name ∙ un;
-      }
+      has = record { within = has.within; key = has.key; table = has.table; name = refl };
+      unknown = ap known has.name ∙ un;
+    }
 
     pub unknown_none : (count : ℕ) → count ≡ row.count → IsLeast row t known count None → None ≡ first_unknown known ms
     unknown_none count all none_so =
@@ -142,7 +147,7 @@ module _ (known : List ℕ → Bool) where
         let u = least.1 in
         sym (ap (first_unknown known) (sym is.members)
         ∙ some_unknown (row.name i) _ (is.tables t) (told.sorted t) u.unknown (told.there i t (row.name i) u.has)
-          (λ k un before. told.gone t k (λ j has. least.2 j (let w = has.within in omega arith) (named j k has un) (ap (λ m. order m (row.name i)) has.name ∙ before))))
+        (λ k un before. told.gone t k (λ j has. least.2 j (let w = has.within in omega arith) (named j k has un) (ap (λ m. order m (row.name i)) has.name ∙ before))))
 
   module _ (row : Row) (t : ℕ) where
     pub least_first : IsLeast row t known 0 None
@@ -151,36 +156,48 @@ module _ (known : List ℕ → Bool) where
     -- one part more
     pub least_skip : (count : ℕ) (least : Option ℕ) → IsLeast row t known count least → ¬ IsUnknown row t known count → IsLeast row t known (count + 1) least
     least_skip count None h other = λ j low. elim (cases_eq j count) [
-        | inl same ↦ λ u. other (rw same at u)
-        | inr apart ↦ h j (omega arith)
-      ]
-    least_skip count (Some i) h other =
-        (let low = h.0 in omega arith, h.1, λ j low u. elim (cases_eq j count) [
-          | inl same ↦ absurd (other (rw same at u))
-          | inr apart ↦ h.2 j (omega arith) u
-        ])
+      | inl same ↦ λ u. other (rw same at u)
+      | inr apart ↦ h j (omega arith)
+    ]
+    least_skip count (Some i) h other = (
+      let low = h.0 in omega arith,
+      h.1,
+      λ j low u. elim (cases_eq j count) [
+        | inl same ↦ absurd (other (rw same at u))
+        | inr apart ↦ h.2 j (omega arith) u
+      ],
+    )
 
     pub least_take_first : (count : ℕ) → IsLeast row t known count None → IsUnknown row t known count → IsLeast row t known (count + 1) (Some count)
-    least_take_first count h u =
-        (omega arith, u, λ j low u' less. elim (cases_eq j count) [
-          | inl same ↦ not_less (row.name count) (ap (λ n. order n (row.name count)) (ap row.name (sym same)) ∙ less)
-          | inr apart ↦ h j (omega arith) u'
-        ])
+    least_take_first count h u = (
+      omega arith,
+      u,
+      λ j low u' less. elim (cases_eq j count) [
+        | inl same ↦ not_less (row.name count) (ap (λ n. order n (row.name count)) (ap row.name (sym same)) ∙ less)
+        | inr apart ↦ h j (omega arith) u'
+      ],
+    )
 
     pub least_take : (count i : ℕ) → IsLeast row t known count (Some i) → IsUnknown row t known count → order (row.name count) (row.name i) ≡ Less
         → IsLeast row t known (count + 1) (Some count)
-    least_take count i h u before =
-        (omega arith, u, λ j low u' less. elim (cases_eq j count) [
-          | inl same ↦ not_less (row.name count) (ap (λ n. order n (row.name count)) (ap row.name (sym same)) ∙ less)
-          | inr apart ↦ h.2 j (omega arith) u' (nat_list_cmp_total.trans (row.name j) (row.name count) (row.name i) less before)
-        ])
+    least_take count i h u before = (
+      omega arith,
+      u,
+      λ j low u' less. elim (cases_eq j count) [
+        | inl same ↦ not_less (row.name count) (ap (λ n. order n (row.name count)) (ap row.name (sym same)) ∙ less)
+        | inr apart ↦ h.2 j (omega arith) u' (nat_list_cmp_total.trans (row.name j) (row.name count) (row.name i) less before)
+      ],
+    )
 
     pub least_keep : (count i : ℕ) → IsLeast row t known count (Some i) → ¬ (order (row.name count) (row.name i) ≡ Less) → IsLeast row t known (count + 1) (Some i)
-    least_keep count i h later =
-        (let low = h.0 in omega arith, h.1, λ j low u. elim (cases_eq j count) [
-          | inl same ↦ λ less. later (ap (λ n. order n (row.name i)) (ap row.name (sym same)) ∙ less)
-          | inr apart ↦ h.2 j (omega arith) u
-        ])
+    least_keep count i h later = (
+      let low = h.0 in omega arith,
+      h.1,
+      λ j low u. elim (cases_eq j count) [
+        | inl same ↦ λ less. later (ap (λ n. order n (row.name i)) (ap row.name (sym same)) ∙ less)
+        | inr apart ↦ h.2 j (omega arith) u
+      ],
+    )
 
 -- ---- the elements of an array of tables
 
@@ -221,9 +238,9 @@ left_first depth row last ds is =
 module _ (depth : ℕ) (row : Row) (f : ℕ → Nodes) (d : ℕ → Items) (ds : Items) (ts : List ℕ) (at turn : ℕ) (left : IsLeft depth row f d ds ts at turn) where
   pub left_none : at ≡ none → IsLeft depth row f d ds ts none (turn + 1)
   left_none is = record {
-      near = λ some. absurd (some refl);
-      whole = left.whole ∙ ap (λ b. items_onto (done_of (datum_of depth row.values) f d b) (tables_of f (reverse ts))) is;
-    }
+    near = λ some. absurd (some refl);
+    whole = left.whole ∙ ap (λ b. items_onto (done_of (datum_of depth row.values) f d b) (tables_of f (reverse ts))) is;
+  }
 
   pub left_more : Holds depth row f d → ¬ (at ≡ none) → (next : ℕ) → ((b : ℕ) → row.what at ≡ Element b → next ≡ b) → (new : List ℕ) → new ≡ ts ++ at ∷ []
       → IsLeft depth row f d ds new next (turn + 1)
@@ -237,7 +254,7 @@ module _ (depth : ℕ) (row : Row) (f : ℕ → Nodes) (d : ℕ → Items) (ds :
       let room = n.2 in
       let datum = datum_of depth row.values in
       let turned : tables_of f (reverse new) ≡ table (close (f at)) ∷ tables_of f (reverse ts) =
-          ap (λ xs. tables_of f (reverse xs)) pushed ∙ ap (tables_of f) (reverse-append ts (at ∷ [])) in
+      ap (λ xs. tables_of f (reverse xs)) pushed ∙ ap (tables_of f) (reverse-append ts (at ∷ [])) in
       record {
         near = λ go.
             let h = tree.before at b n.0 e.1 (λ z. go (same ∙ z)) in
@@ -253,6 +270,6 @@ module _ (depth : ℕ) (row : Row) (f : ℕ → Nodes) (d : ℕ → Items) (ds :
 
   pub left_end : row.count ≤ turn → ds ≡ items_of (tables_of f (reverse ts))
   left_end end = elim (cases_eq at none) [
-      | inl is ↦ left.whole ∙ ap (λ x. items_onto x (tables_of f (reverse ts))) (done_none (datum_of depth row.values) f d at is) ∙ items_from_none (tables_of f (reverse ts))
-      | inr some ↦ let n = (left.near some).2 in absurd (omega arith)
-    ]
+    | inl is ↦ left.whole ∙ ap (λ x. items_onto x (tables_of f (reverse ts))) (done_none (datum_of depth row.values) f d at is) ∙ items_from_none (tables_of f (reverse ts))
+    | inr some ↦ let n = (left.near some).2 in absurd (omega arith)
+  ]

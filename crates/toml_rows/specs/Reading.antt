@@ -80,7 +80,7 @@ abbrev pub Follows : ℕ → Row → Row → ℕ → List (List ℕ) → (Edit �
 Follows depth old new t path walk r =
     At depth old t r
     (λ tables p s. Keeps old new
-        × Entered depth new (p ++ path) s (λ top. (edit : Edit) → along_header p (walk edit) (tables 0) ≡ along_header (p ++ path) edit top))
+    × Entered depth new (p ++ path) s (λ top. (edit : Edit) → along_header p (walk edit) (tables 0) ≡ along_header (p ++ path) edit top))
     (λ tables p. (edit : Edit) → along_header p (walk edit) (tables 0) ≡ None)
 
 -- an edit of the table at the end of a path
@@ -121,5 +121,5 @@ abbrev pub OpensAt : ℕ → Row → Row → Key → Definition → Result ℕ P
 OpensAt depth old new key what r =
     (tables : ℕ → Nodes) (elements : ℕ → Items) → Holds depth old tables elements
     → MatchResult r
-      (λ s. Entered depth new (key.0 ++ key.1 ∷ []) s (λ top. along_header key.0 (at_key key.1 what) (tables 0) ≡ Some top))
-      (λ e. ¬ (e ≡ OutOfMemory) → along_header key.0 (at_key key.1 what) (tables 0) ≡ None)
+    (λ s. Entered depth new (key.0 ++ key.1 ∷ []) s (λ top. along_header key.0 (at_key key.1 what) (tables 0) ≡ Some top))
+    (λ e. ¬ (e ≡ OutOfMemory) → along_header key.0 (at_key key.1 what) (tables 0) ≡ None)

@@ -102,14 +102,14 @@ side_of part high = if high then part.high else part.low
 
 abbrev pub row_by : List Part → List (List ℕ) → List (List ℕ) → Row
 row_by parts names values = record {
-    count = length parts;
-    table = λ i. (part_at parts i).table;
-    name = λ i. get_or names i [];
-    what = λ i. (part_at parts i).what;
-    link = λ i high. side_of (part_at parts i) high;
-    named = length names;
-    values = values;
-  }
+  count = length parts;
+  table = λ i. (part_at parts i).table;
+  name = λ i. get_or names i [];
+  what = λ i. (part_at parts i).what;
+  link = λ i high. side_of (part_at parts i) high;
+  named = length names;
+  values = values;
+}
 
 abbrev pub row_of : Keys → Row
 row_of keys = row_by keys.parts.items keys.names (map (λ (text : Bor (List ℕ)). text.now) keys.values.items)
@@ -190,14 +190,14 @@ pub record IsEmpty (row : Row) : Type 0 where
 -- the row with one value more
 abbrev pub with_value : Row → List ℕ → Row
 with_value row text = record {
-    count = row.count;
-    table = row.table;
-    name = row.name;
-    what = row.what;
-    link = row.link;
-    named = row.named;
-    values = row.values ++ text ∷ [];
-  }
+  count = row.count;
+  table = row.table;
+  name = row.name;
+  what = row.what;
+  link = row.link;
+  named = row.named;
+  values = row.values ++ text ∷ [];
+}
 
 -- the search has come to this part after so many bits, and the key comes after it if it is there
 pub record IsTurn (row : Row) (level : ℕ → ℕ) (t : ℕ) (k : List ℕ) (at turn : ℕ) : Type 0 where

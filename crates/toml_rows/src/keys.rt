@@ -80,13 +80,7 @@ impl<'s> Keys<'s> {
         ensures { result ≡ (row_of self.now).link part high }
     {
         match self.parts.get(part as usize) {
-            Some(part) => {
-                if high {
-                    part.high
-                } else {
-                    part.low
-                }
-            }
+            Some(part) => { if high { part.high } else { part.low } }
             None => NONE,
         }
     }
@@ -153,7 +147,14 @@ impl<'s> Keys<'s> {
     }
 
     /// Adds a key that is not there.
-    pub fn add(&mut self, table: u32, name: &[u8], at: u32, high: bool, what: What) -> Result<u32, AllocError>
+    pub fn add(
+        &mut self,
+        table: u32,
+        name: &[u8],
+        at: u32,
+        high: bool,
+        what: What,
+    ) -> Result<u32, AllocError>
         ensures { (level : ℕ → ℕ) → IsFoundBy (row_of self.old) level → IsFree (row_of self.old) level table name.now at high
             → IsTrue (is_key what) → (row_of self.old).named ≡ (row_of self.old).count
             → IfOk result (λ n. Adds (row_of self.old) (row_of self.new) table name.now what n) }

@@ -71,5 +71,9 @@ fn start(ends: &[u32], index: usize) -> usize
     requires { index < length ends.now }
     ensures { result ≡ start_of 0 ends.now index }
 {
-    if index == 0 { 0 } else { ends[index - 1] as usize }
+    if index == 0 {
+        0
+    } else {
+        ends[index - 1] as usize
+    }
 }

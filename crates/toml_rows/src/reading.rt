@@ -65,7 +65,12 @@ fn skip_bom(s: &str) -> &str
 }
 
 // Gives the table that the next pairs go into.
-fn define<'s>(keys: &mut Keys<'s>, section: u32, key: &Key, what: Definition<'s>) -> Result<u32, ParseError>
+fn define<'s>(
+    keys: &mut Keys<'s>,
+    section: u32,
+    key: &Key,
+    what: Definition<'s>,
+) -> Result<u32, ParseError>
     ensures { Defines (row_of keys.old) (row_of keys.new) section (key_view key.now, definition_view what.entry) result }
 {
     match what {

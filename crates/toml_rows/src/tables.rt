@@ -90,7 +90,12 @@ fn through_dots(keys: &mut Keys, table: u32, path: &[String]) -> Result<u32, Par
 }
 
 // A key is defined once.
-fn define_value<'s>(keys: &mut Keys<'s>, table: u32, name: &[u8], text: &'s str) -> Result<(), ParseError>
+fn define_value<'s>(
+    keys: &mut Keys<'s>,
+    table: u32,
+    name: &[u8],
+    text: &'s str,
+) -> Result<(), ParseError>
     ensures { (depth : ℕ) → Edits depth (row_of keys.old) (row_of keys.new) table (at_key name.now (key_value (data_at depth text.now))) result }
 {
     let value = keys.push_value(text)?;
@@ -104,7 +109,12 @@ fn define_value<'s>(keys: &mut Keys<'s>, table: u32, name: &[u8], text: &'s str)
 }
 
 /// Puts a pair into a table.
-pub(crate) fn put<'s>(keys: &mut Keys<'s>, table: u32, key: &Key, text: &'s str) -> Result<(), ParseError>
+pub(crate) fn put<'s>(
+    keys: &mut Keys<'s>,
+    table: u32,
+    key: &Key,
+    text: &'s str,
+) -> Result<(), ParseError>
     ensures { (depth : ℕ) → Edits depth (row_of keys.old) (row_of keys.new) table (put (key_view key.now) (data_at depth text.now)) result }
 {
     let inner = through_dots(keys, table, &key.path)?;

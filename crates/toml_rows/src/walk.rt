@@ -74,7 +74,13 @@ impl<'s> Keys<'s> {
     }
 
     // The first of the names up to this part, if `least` is the first before it.
-    fn least_of(&self, table: u32, known: &[&str], part: usize, least: Option<usize>) -> Option<usize>
+    fn least_of(
+        &self,
+        table: u32,
+        known: &[&str],
+        part: usize,
+        least: Option<usize>,
+    ) -> Option<usize>
         ensures { part < (row_of self.now).count
             → IsLeast (row_of self.now) table (knows known.now) part least
             → IsLeast (row_of self.now) table (knows known.now) (part + 1) result }

@@ -16,7 +16,7 @@ returns-in_err-read_prices-in-Inside c o opened_is =
     let fault = c.in_err-read_prices-in-Inside.field-0.0 in
     let err : c.from_residual.result ≡ Err fault = search rules in
     rw err (told_on (tariff_flaw_of fault) (each_of (price_in c.args.table ms) (classes_of c.args.table)) (read o) (λ flaw e. ap read same ∙ e)
-      (c.in_err-read_prices-in-Inside.ensures 80 ms is))
+    (c.in_err-read_prices-in-Inside.ensures 80 ms is))
 
 pub returns-in_ok-read_prices-in-Inside : goal.returns-in_ok-read_prices-in-Inside
 returns-in_ok-read_prices-in-Inside c o opened_is =
@@ -32,7 +32,7 @@ returns-in_err-read_prices-in-Own c o opened_is =
     let fault = c.in_err-read_prices-in-Own.field-0.0 in
     let err : c.from_residual-in_err-read_prices-in-Own.result ≡ Err fault = search rules in
     rw err (told_on (tariff_flaw_of fault) (each_of (price_in c.args.table ms) (classes_of c.args.table)) (read o) (λ flaw e. ap read same ∙ e)
-      (c.in_err-read_prices-in-Own.ensures 79 ms is))
+    (c.in_err-read_prices-in-Own.ensures 79 ms is))
 
 pub returns-in_ok-read_prices-in-Own : goal.returns-in_ok-read_prices-in-Own
 returns-in_ok-read_prices-in-Own c o opened_is =
@@ -48,7 +48,7 @@ returns-in_err-read_prices-in-Missing c o opened_is =
     let fault = c.in_err-read_prices-in-Missing.field-0.0 in
     let err : c.from_residual-in_err-read_prices-in-Missing.result ≡ Err fault = search rules in
     rw err (told_on (tariff_flaw_of fault) (each_of (price_in c.args.table no_members) (classes_of c.args.table)) (read o) (λ flaw e. ap read same ∙ e)
-      (c.in_err-read_prices-in-Missing.ensures 79 no_members is))
+    (c.in_err-read_prices-in-Missing.ensures 79 no_members is))
 
 pub returns-in_ok-read_prices-in-Missing : goal.returns-in_ok-read_prices-in-Missing
 returns-in_ok-read_prices-in-Missing c o opened_is =

@@ -9,4 +9,4 @@ returns c depth ms is =
     let row = row_of c.args.keys.now in
     c.in_ok-tier.ensures depth row (get_member c.as_bytes.result.now ms) (c.get-price.ensures depth ms is)
     ∙ ap₂ (λ n e. tier_by (get_member n ms) e) c.as_bytes.ensures.value
-      (c.in_ok-end.ensures depth row (get_member c.as_bytes-2.result.now ms) (c.get-upto.ensures depth ms is) ∙ ap (λ n. end_said (get_member n ms)) c.as_bytes-2.ensures.value)
+    (c.in_ok-end.ensures depth row (get_member c.as_bytes-2.result.now ms) (c.get-upto.ensures depth ms is) ∙ ap (λ n. end_said (get_member n ms)) c.as_bytes-2.ensures.value)

@@ -17,7 +17,7 @@ pub returns-in_default : goal.returns-in_default
 returns-in_default c =
     c.loop-text.invariant
     ∙ said_refused (λ (t : Bor (List ℕ)). data_at c.args.depth t.now) c.args.class c.args.texts.now c.loop-text.text-index _ c.loop-text-test.true c.loop-text.tiers.items
-      (sym c.in_ok-said.ensures ∙ c.in_default.is)
+    (sym c.in_ok-said.ensures ∙ c.in_default.is)
 
 pub loop-text-preserved : goal.loop-text-preserved
 loop-text-preserved c =
@@ -25,7 +25,7 @@ loop-text-preserved c =
     let pushed : c.push.new.self.items ≡ c.loop-text.tiers.items ++ c.in-Some.tier ∷ [] = search rules in
     c.loop-text.invariant
     ∙ said_on (λ (t : Bor (List ℕ)). data_at c.args.depth t.now) c.args.class c.args.texts.now i _ c.loop-text-test.true c.loop-text.tiers.items c.in-Some.tier
-      (sym c.in_ok-said.ensures ∙ c.in-Some.is)
+    (sym c.in_ok-said.ensures ∙ c.in-Some.is)
     ∙ ap (λ (ts : List Tier). joined ts (tiers_said c.args.class (items_of (data_of_all c.args.depth (drop (i + 1) c.args.texts.now))))) (sym pushed)
 
 pub returns : goal.returns

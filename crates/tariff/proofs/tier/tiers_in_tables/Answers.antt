@@ -23,7 +23,7 @@ returns-in_default c depth tables before holds =
     let is : IsTable depth (row_of c.args.keys.now) n (close (tables n)) = record { tables = tables; elements = before; holds = holds; members = refl } in
     c.loop-number.invariant depth tables before holds
     ∙ said_refused f c.args.class c.args.numbers.now c.loop-number.number-index 0 c.loop-number-test.true c.loop-number.tiers.items
-      (sym (c.in_ok-said.ensures depth (close (tables n)) is) ∙ c.in_default.is)
+    (sym (c.in_ok-said.ensures depth (close (tables n)) is) ∙ c.in_default.is)
 
 pub loop-number-preserved : goal.loop-number-preserved
 loop-number-preserved c depth tables before holds =
@@ -34,7 +34,7 @@ loop-number-preserved c depth tables before holds =
     let pushed : c.push.new.self.items ≡ c.loop-number.tiers.items ++ c.in-Some.tier ∷ [] = search rules in
     c.loop-number.invariant depth tables before holds
     ∙ said_on f c.args.class c.args.numbers.now i 0 c.loop-number-test.true c.loop-number.tiers.items c.in-Some.tier
-      (sym (c.in_ok-said.ensures depth (close (tables n)) is) ∙ c.in-Some.is)
+    (sym (c.in_ok-said.ensures depth (close (tables n)) is) ∙ c.in-Some.is)
     ∙ ap (λ (ts : List Tier). joined ts (tiers_said c.args.class (items_of (tables_of tables (drop (i + 1) c.args.numbers.now))))) (sym pushed)
 
 pub returns : goal.returns

@@ -15,7 +15,7 @@ returns-in_err-tiers-in-Tables c d says =
     let fault = c.in_err-tiers-in-Tables.field-0.0 in
     let is : c.from_residual-in_err-tiers-in-Tables.result ≡ Err fault = search rules in
     rw is (told_on (tariff_flaw_of fault) (tiers_of c.args.class (array ds)) (tiers_of c.args.class d) (λ flaw e. ap (tiers_of c.args.class) same ∙ e)
-      (c.in_err-tiers-in-Tables.ensures c.args.depth ds array_is))
+    (c.in_err-tiers-in-Tables.ensures c.args.depth ds array_is))
 
 pub returns-in_ok-tiers-in-Tables : goal.returns-in_ok-tiers-in-Tables
 returns-in_ok-tiers-in-Tables c d says =

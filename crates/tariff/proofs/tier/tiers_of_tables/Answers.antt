@@ -14,13 +14,13 @@ returns-in_err-tiers c depth ds array_is =
     let fault = c.in_err-tiers.field-0.0 in
     let is : c.from_residual-in_err-tiers.result ≡ Err fault = search rules in
     let all : tiers_said c.args.class ds ≡ tiers_said c.args.class (items_of (tables_of tables c.deref.result.now)) =
-        ap (tiers_said c.args.class) (same ∙ ap (λ ts. items_of (tables_of tables ts)) (sym c.deref.ensures.value)) in
+    ap (tiers_said c.args.class) (same ∙ ap (λ ts. items_of (tables_of tables ts)) (sym c.deref.ensures.value)) in
     rw is (told_on (tariff_flaw_of fault) (tiers_said c.args.class (items_of (tables_of tables c.deref.result.now))) (tiers_said c.args.class ds >>= in_range c.args.class) (λ flaw e. ap (λ r. r >>= in_range c.args.class) (all ∙ e)) (c.in_err-tiers.ensures depth tables before holds))
 
 pub returns : goal.returns
 returns c depth ds array_is =
     let (tables, before, holds, same) = c.in_ok-numbers.ensures depth ds array_is in
     let all : tiers_said c.args.class ds ≡ Ok c.in_ok-tiers.tiers.items =
-        ap (tiers_said c.args.class) (same ∙ ap (λ ts. items_of (tables_of tables ts)) (sym c.deref.ensures.value)) ∙ c.in_ok-tiers.ensures depth tables before holds in
+    ap (tiers_said c.args.class) (same ∙ ap (λ ts. items_of (tables_of tables ts)) (sym c.deref.ensures.value)) ∙ c.in_ok-tiers.ensures depth tables before holds in
     let P : Result (List Tier) TariffFlaw → Type 0 = λ r. TariffGives (λ t. t) c.in_range.result (r >>= in_range c.args.class) in
     subst P (sym all) c.in_range.ensures

@@ -30,7 +30,7 @@ returns-in_err-after c n h =
     let (m, room, loop) = l.invariant.2 n h in
     match_err c.from_residual.result _ _ c.in_err-after.field-0.0 _ c.from_residual.ensures.1 (λ y p. p) λ refused.
     loop ∙ items_bad (val c.args.depth) m _ l.rest.now (omega arith) other
-      (unread_is (val c.args.depth (skip_blank l.rest.now)) (rw start_is at (c.in_err-after.ensures.value refused)))
+    (unread_is (val c.args.depth (skip_blank l.rest.now)) (rw start_is at (c.in_err-after.ensures.value refused)))
 
 pub returns-in_err-rest : goal.returns-in_err-rest
 returns-in_err-rest c n h =
@@ -40,8 +40,8 @@ returns-in_err-rest c n h =
     let (m, room, loop) = l.invariant.2 n h in
     match_err c.from_residual-in_err-rest.result _ _ c.in_err-rest.field-0.0 _ c.from_residual-in_err-rest.ensures.1 (λ y p. p) λ refused.
     loop ∙ items_bad_end (val c.args.depth) m _ l.rest.now (data_at c.args.depth (skip_blank l.rest.now)) c.in_ok-after.after.now (omega arith) other
-      (read_is (val c.args.depth (skip_blank l.rest.now)) c.in_ok-after.after.now (rw start_is at c.in_ok-after.ensures.value))
-      (c.in_err-rest.ensures.value refused)
+    (read_is (val c.args.depth (skip_blank l.rest.now)) c.in_ok-after.after.now (rw start_is at c.in_ok-after.ensures.value))
+    (c.in_err-rest.ensures.value refused)
 
 pub items-preserved : goal.items-preserved
 items-preserved c =
@@ -54,9 +54,12 @@ items-preserved c =
       search rules,
       omega (arith, l.invariant.1),
       λ n h.
-          let (m, room, loop) = l.invariant.2 n h in
-          (m - 1, omega arith, loop ∙ items_more (val c.args.depth) m _ l.rest.now (data_at c.args.depth (skip_blank l.rest.now)) c.in_ok-after.after.now c.in_ok-rest.rest.now (omega arith) other
-            (read_is (val c.args.depth (skip_blank l.rest.now)) c.in_ok-after.after.now (rw start_is at c.in_ok-after.ensures.value))
-            c.in_ok-rest.ensures.value
-            ∙ rw (c.in_ok-push.ensures.items, data_push c.args.depth l.found.items c.skip_blank-start.result, start_is)),
+          let (m, room, loop) = l.invariant.2 n h in (
+            m - 1,
+            omega arith,
+            loop ∙ items_more (val c.args.depth) m _ l.rest.now (data_at c.args.depth (skip_blank l.rest.now)) c.in_ok-after.after.now c.in_ok-rest.rest.now (omega arith) other
+                (read_is (val c.args.depth (skip_blank l.rest.now)) c.in_ok-after.after.now (rw start_is at c.in_ok-after.ensures.value))
+                c.in_ok-rest.ensures.value
+                ∙ rw (c.in_ok-push.ensures.items, data_push c.args.depth l.found.items c.skip_blank-start.result, start_is),
+          ),
     )

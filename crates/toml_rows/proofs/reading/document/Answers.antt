@@ -39,9 +39,11 @@ returns-then-is_empty c =
     let room = l.invariant.8 in
     let loop = l.invariant.9 in
     let start_is = c.skip_blank-start.ensures.rest in
-    let none : length start ≡ 0 = grind (arith, common_steps) in
-    (close (tables 0), record { tables = tables; elements = l.invariant.3; holds = l.invariant.5; members = refl },
-    document_some c.args.s.now doc (loop ∙ lines_end m doc l.rest.now (omega arith) none))
+    let none : length start ≡ 0 = grind (arith, common_steps) in (
+      close (tables 0),
+      record { tables = tables; elements = l.invariant.3; holds = l.invariant.5; members = refl },
+      document_some c.args.s.now doc (loop ∙ lines_end m doc l.rest.now (omega arith) none),
+    )
 
 pub returns-in_err-key : goal.returns-in_err-key
 returns-in_err-key c =
@@ -71,7 +73,7 @@ returns-in_err-section c =
     let read = rw start_is at c.in_ok-key.ensures.value in
     match_err c.from_residual-in_err-section.result _ _ c.in_err-section.field-0.0 _ c.from_residual-in_err-section.ensures.1 (λ y p. p) λ refused.
     document_none c.args.s.now (loop ∙ lines_refused m doc l.rest.now _ _ (omega arith) other read
-      (c.in_err-section.ensures tables l.invariant.3 l.invariant.4 l.invariant.5 l.invariant.6 refused))
+    (c.in_err-section.ensures tables l.invariant.3 l.invariant.4 l.invariant.5 l.invariant.6 refused))
 
 pub lines-preserved : goal.lines-preserved
 lines-preserved c =
@@ -87,6 +89,15 @@ lines-preserved c =
     let read = rw start_is at c.in_ok-key.ensures.value in
     let shorter = c.in_ok-key.ensures.shorter in
     let before = c.skip_blank-start.ensures.within in
-    let new = c.in_ok-section.ensures tables l.invariant.3 l.invariant.4 l.invariant.5 l.invariant.6 in
-    (search rules, omega (arith, l.invariant.1), new.tables, new.elements, new.path, new.holds, new.leads, m - 1, omega arith,
-    loop ∙ lines_more m doc (new.tables 0, new.path) l.rest.now _ _ (omega arith) other read new.is)
+    let new = c.in_ok-section.ensures tables l.invariant.3 l.invariant.4 l.invariant.5 l.invariant.6 in (
+      search rules,
+      omega (arith, l.invariant.1),
+      new.tables,
+      new.elements,
+      new.path,
+      new.holds,
+      new.leads,
+      m - 1,
+      omega arith,
+      loop ∙ lines_more m doc (new.tables 0, new.path) l.rest.now _ _ (omega arith) other read new.is,
+    )

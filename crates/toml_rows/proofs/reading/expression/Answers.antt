@@ -34,7 +34,7 @@ returns-in_err-rest-clause-value c =
     let key : Key = key_view c.in_ok-key-3.key in
     match_err c.from_residual-in_err-rest.result _ _ c.in_err-rest.field-0.0 _ c.from_residual-in_err-rest.ensures.1 (λ y e. e) λ refused.
     pair_no_value c.args.s.now c.in_ok-key-3.at_value.now key other c.in_ok-key-3.ensures.value
-      (unread_is (val recursion_limit c.in_ok-key-3.at_value.now) (c.in_err-rest.ensures.value refused))
+    (unread_is (val recursion_limit c.in_ok-key-3.at_value.now) (c.in_err-rest.ensures.value refused))
 
 pub returns-else-first-ne93-clause-value : goal.returns-else-first-ne93-clause-value
 unfolding expression

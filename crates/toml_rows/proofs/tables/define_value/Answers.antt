@@ -23,6 +23,6 @@ returns-in_ok-add-in-Free c depth tables elements p holds leads =
     let tree = h.tree in
     let seat = c.in-Free.ensures h.found.0 h.found.1 tree.root in
     let done = value_put depth mid tables elements p c.args.table h (both.1 p c.args.table leads) c.args.name.now new old c.args.text.now
-        c.in_ok-value.value c.in_ok-add-in-Free.field-0 c.in_ok-value.ensures.row c.in_ok-value.ensures.number
-        (c.in_ok-add-in-Free.ensures h.found.0 h.found.1 seat (search rules) tree.named) seat.nothing in
+    c.in_ok-value.value c.in_ok-add-in-Free.field-0 c.in_ok-value.ensures.row c.in_ok-value.ensures.number
+    (c.in_ok-add-in-Free.ensures h.found.0 h.found.1 seat (search rules) tree.named) seat.nothing in
     ((λ q s there. done.0 q s (both.1 q s there)), done.1)

@@ -10,7 +10,7 @@ returns-in_err-inner-in-Found c depth tables elements p holds leads =
     let has = c.in-Found.ensures holds.found.0 holds.found.1 tree.root in
     match_err c.from_residual.result _ _ c.in_err-inner-in-Found.field-0.0 _ c.from_residual.ensures.1 (λ y e. e) λ refused.
     header_stopped depth row tables elements p c.args.table holds leads c.args.name.now c.in-Found.part has
-      (c.in_err-inner-in-Found.ensures refused)
+    (c.in_err-inner-in-Found.ensures refused)
 
 pub returns-in_ok-inner-in-Found : goal.returns-in_ok-inner-in-Found
 returns-in_ok-inner-in-Found c depth tables elements p holds leads =

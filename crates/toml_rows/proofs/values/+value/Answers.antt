@@ -35,7 +35,7 @@ array-returns-in_err-after-clause-value t c n h =
     let (m, found, room, loop) = l.invariant.2 n h in
     gives_err _ c.from_residual.result _ c.in_err-after.field-0.0 _ c.from_residual.ensures.1 (λ y p. p) λ refused.
     ap rest_of (loop ∙ items_bad (val c.args.depth) m found l.rest.now (omega arith) other
-      (unread_is (val c.args.depth (skip_blank l.rest.now)) (rw start_is at (c.in_err-after.ensures.value refused))))
+    (unread_is (val c.args.depth (skip_blank l.rest.now)) (rw start_is at (c.in_err-after.ensures.value refused))))
 
 pub array-returns-in_err-rest-clause-value : goal.array-returns-in_err-rest-clause-value
 array-returns-in_err-rest-clause-value t c n h =
@@ -45,8 +45,8 @@ array-returns-in_err-rest-clause-value t c n h =
     let (m, found, room, loop) = l.invariant.2 n h in
     gives_err _ c.from_residual-in_err-rest.result _ c.in_err-rest.field-0.0 _ c.from_residual-in_err-rest.ensures.1 (λ y p. p) λ refused.
     ap rest_of (loop ∙ items_bad_end (val c.args.depth) m found l.rest.now (data_at c.args.depth (skip_blank l.rest.now)) c.in_ok-after.after.now (omega arith) other
-      (read_is (val c.args.depth (skip_blank l.rest.now)) c.in_ok-after.after.now (rw start_is at c.in_ok-after.ensures.value))
-      (c.in_err-rest.ensures.value refused))
+    (read_is (val c.args.depth (skip_blank l.rest.now)) c.in_ok-after.after.now (rw start_is at c.in_ok-after.ensures.value))
+    (c.in_err-rest.ensures.value refused))
 
 pub array-items-preserved : goal.array-items-preserved
 array-items-preserved t c =
@@ -60,10 +60,14 @@ array-items-preserved t c =
       omega (arith, l.invariant.1),
       λ n h.
           let (m, found, room, loop) = l.invariant.2 n h in
-          let d = data_at c.args.depth (skip_blank l.rest.now) in
-          (m - 1, push_item found d, omega arith, loop ∙ items_more (val c.args.depth) m found l.rest.now d c.in_ok-after.after.now c.in_ok-rest.rest.now (omega arith) other
-            (read_is (val c.args.depth (skip_blank l.rest.now)) c.in_ok-after.after.now (rw start_is at c.in_ok-after.ensures.value))
-            c.in_ok-rest.ensures.value),
+          let d = data_at c.args.depth (skip_blank l.rest.now) in (
+            m - 1,
+            push_item found d,
+            omega arith,
+            loop ∙ items_more (val c.args.depth) m found l.rest.now d c.in_ok-after.after.now c.in_ok-rest.rest.now (omega arith) other
+                (read_is (val c.args.depth (skip_blank l.rest.now)) c.in_ok-after.after.now (rw start_is at c.in_ok-after.ensures.value))
+                c.in_ok-rest.ensures.value,
+          ),
     )
 
 pub inline_table-members-init : goal.inline_table-members-init
@@ -76,9 +80,11 @@ inline_table-returns-then-first-eq125-clause-value t c n h =
     let start_is = c.skip_blank-start.ensures.rest in
     let tables = l.invariant.2 in
     let (m, room, loop) = l.invariant.5 n h in
-    let closing : (first (skip_blank l.rest.now) == 125) ≡ true = grind (arith, common_steps) in
-    (close (tables 0), record { tables = tables; elements = l.invariant.3; holds = l.invariant.4; members = refl },
-    loop ∙ members_end (val c.args.depth) m (tables 0) l.rest.now (omega arith) closing ∙ rw (c.skip.ensures.rest, c.skip_blank-start.ensures.rest))
+    let closing : (first (skip_blank l.rest.now) == 125) ≡ true = grind (arith, common_steps) in (
+      close (tables 0),
+      record { tables = tables; elements = l.invariant.3; holds = l.invariant.4; members = refl },
+      loop ∙ members_end (val c.args.depth) m (tables 0) l.rest.now (omega arith) closing ∙ rw (c.skip.ensures.rest, c.skip_blank-start.ensures.rest),
+    )
 
 pub inline_table-returns-in_err-key-clause-value : goal.inline_table-returns-in_err-key-clause-value
 inline_table-returns-in_err-key-clause-value t c n h =
@@ -89,7 +95,7 @@ inline_table-returns-in_err-key-clause-value t c n h =
     let (m, room, loop) = l.invariant.5 n h in
     match_err c.from_residual-in_err-key.result _ _ c.in_err-key.field-0.0 _ c.from_residual-in_err-key.ensures.1 (λ y p. p) λ refused.
     loop ∙ members_bad (val c.args.depth) m (tables 0) l.rest.now (omega arith) other
-      (keyval_no_key (val c.args.depth) _ (rw start_is at (c.in_err-key.ensures.value refused)))
+    (keyval_no_key (val c.args.depth) _ (rw start_is at (c.in_err-key.ensures.value refused)))
 
 pub inline_table-returns-in_err-after-clause-value : goal.inline_table-returns-in_err-after-clause-value
 inline_table-returns-in_err-after-clause-value t c n h =
@@ -102,7 +108,7 @@ inline_table-returns-in_err-after-clause-value t c n h =
     let (m, room, loop) = l.invariant.5 n h in
     match_err c.from_residual-in_err-after.result _ _ c.in_err-after.field-0.0 _ c.from_residual-in_err-after.ensures.1 (λ y p. p) λ refused.
     loop ∙ members_bad (val c.args.depth) m (tables 0) l.rest.now (omega arith) other
-      (keyval_no_value (val c.args.depth) _ _ key read_key (unread_is (val c.args.depth c.in_ok-key.at_value.now) (c.in_err-after.ensures.value refused)))
+    (keyval_no_value (val c.args.depth) _ _ key read_key (unread_is (val c.args.depth c.in_ok-key.at_value.now) (c.in_err-after.ensures.value refused)))
 
 pub inline_table-returns-in_err-put-clause-value : goal.inline_table-returns-in_err-put-clause-value
 inline_table-returns-in_err-put-clause-value t c n h =
@@ -113,12 +119,12 @@ inline_table-returns-in_err-put-clause-value t c n h =
     let d = data_at c.args.depth c.in_ok-key.at_value.now in
     let read_key : key_equals (skip_blank l.rest.now) ≡ Some (key, c.in_ok-key.at_value.now) = rw start_is at c.in_ok-key.ensures.value in
     let read = keyval_ok (val c.args.depth) (skip_blank l.rest.now) _ c.in_ok-after.after.now key d read_key
-        (read_is (val c.args.depth c.in_ok-key.at_value.now) c.in_ok-after.after.now c.in_ok-after.ensures.value) in
+    (read_is (val c.args.depth c.in_ok-key.at_value.now) c.in_ok-after.after.now c.in_ok-after.ensures.value) in
     let tables = l.invariant.2 in
     let (m, room, loop) = l.invariant.5 n h in
     match_err c.from_residual-in_err-put.result _ _ c.in_err-put.field-0.0 _ c.from_residual-in_err-put.ensures.1 (λ y p. p) λ refused.
     loop ∙ members_bad_put (val c.args.depth) m (tables 0) l.rest.now key d c.in_ok-after.after.now (omega arith) other read
-      (at_top (put key d) (tables 0) None (c.in_err-put.ensures c.args.depth tables l.invariant.3 [] l.invariant.4 at_root refused))
+    (at_top (put key d) (tables 0) None (c.in_err-put.ensures c.args.depth tables l.invariant.3 [] l.invariant.4 at_root refused))
 
 pub inline_table-returns-in_err-rest-clause-value : goal.inline_table-returns-in_err-rest-clause-value
 inline_table-returns-in_err-rest-clause-value t c n h =
@@ -129,13 +135,13 @@ inline_table-returns-in_err-rest-clause-value t c n h =
     let d = data_at c.args.depth c.in_ok-key.at_value.now in
     let read_key : key_equals (skip_blank l.rest.now) ≡ Some (key, c.in_ok-key.at_value.now) = rw start_is at c.in_ok-key.ensures.value in
     let read = keyval_ok (val c.args.depth) (skip_blank l.rest.now) _ c.in_ok-after.after.now key d read_key
-        (read_is (val c.args.depth c.in_ok-key.at_value.now) c.in_ok-after.after.now c.in_ok-after.ensures.value) in
+    (read_is (val c.args.depth c.in_ok-key.at_value.now) c.in_ok-after.after.now c.in_ok-after.ensures.value) in
     let tables = l.invariant.2 in
     let (m, room, loop) = l.invariant.5 n h in
     let e = (c.in_ok-put.ensures c.args.depth tables l.invariant.3 [] l.invariant.4 at_root).1 in
     match_err c.from_residual-in_err-rest.result _ _ c.in_err-rest.field-0.0 _ c.from_residual-in_err-rest.ensures.1 (λ y p. p) λ refused.
     loop ∙ members_bad_end (val c.args.depth) m (tables 0) (e.tables 0) l.rest.now key d c.in_ok-after.after.now (omega arith) other read
-      (at_top (put key d) (tables 0) (Some (e.tables 0)) e.is) (c.in_err-rest.ensures.value refused)
+    (at_top (put key d) (tables 0) (Some (e.tables 0)) e.is) (c.in_err-rest.ensures.value refused)
 
 pub inline_table-members-preserved : goal.inline_table-members-preserved
 inline_table-members-preserved t c =
@@ -146,7 +152,7 @@ inline_table-members-preserved t c =
     let d = data_at c.args.depth c.in_ok-key.at_value.now in
     let read_key : key_equals (skip_blank l.rest.now) ≡ Some (key, c.in_ok-key.at_value.now) = rw start_is at c.in_ok-key.ensures.value in
     let read = keyval_ok (val c.args.depth) (skip_blank l.rest.now) _ c.in_ok-after.after.now key d read_key
-        (read_is (val c.args.depth c.in_ok-key.at_value.now) c.in_ok-after.after.now c.in_ok-after.ensures.value) in
+    (read_is (val c.args.depth c.in_ok-key.at_value.now) c.in_ok-after.after.now c.in_ok-after.ensures.value) in
     let tables = l.invariant.2 in
     let shorter = c.in_ok-key.ensures.shorter in
     let shorter_again = c.in_ok-after.ensures.shorter in
@@ -159,9 +165,12 @@ inline_table-members-preserved t c =
       e.elements,
       e.holds,
       λ n h.
-          let (m, room, loop) = l.invariant.5 n h in
-          (m - 1, omega arith, loop ∙ members_more (val c.args.depth) m (tables 0) (e.tables 0) l.rest.now key d c.in_ok-after.after.now c.in_ok-rest.rest.now (omega arith) other read
-            (at_top (put key d) (tables 0) (Some (e.tables 0)) e.is) c.in_ok-rest.ensures.value),
+          let (m, room, loop) = l.invariant.5 n h in (
+            m - 1,
+            omega arith,
+            loop ∙ members_more (val c.args.depth) m (tables 0) (e.tables 0) l.rest.now key d c.in_ok-after.after.now c.in_ok-rest.rest.now (omega arith) other read
+                (at_top (put key d) (tables 0) (Some (e.tables 0)) e.is) c.in_ok-rest.ensures.value,
+          ),
     )
 
 pub value-returns-then-byte-ne123-clause-value : goal.value-returns-then-byte-ne123-clause-value

@@ -17,7 +17,10 @@ elements-preserved c depth ds is =
 pub returns : goal.returns
 returns c depth ds is =
     let row = row_of c.args.self.now in
-    let end : row.count ≤ c.elements._turn = grind (arith, common_steps) in
-    (is.tables, is.elements, is.holds,
-    left_end depth row is.tables is.elements ds c.elements.found.items c.elements.at c.elements._turn (c.elements.invariant depth ds is) end
-    ∙ ap (λ xs. items_of (tables_of is.tables xs)) (sym c.reverse.ensures.items))
+    let end : row.count ≤ c.elements._turn = grind (arith, common_steps) in (
+      is.tables,
+      is.elements,
+      is.holds,
+      left_end depth row is.tables is.elements ds c.elements.found.items c.elements.at c.elements._turn (c.elements.invariant depth ds is) end
+          ∙ ap (λ xs. items_of (tables_of is.tables xs)) (sym c.reverse.ensures.items),
+    )

@@ -26,7 +26,7 @@ returns-else-is_before c low h =
     let least : IsLeast row c.args.table known c.args.part (Some c.in-Some.other) = rw c.in-Some.is at h in
     least_keep known row c.args.table c.args.part c.in-Some.other least
     (λ before. let back : IsBefore c.get.result.now c.get-in-Some.result.now = rw (c.get.ensures, c.get-in-Some.ensures) before in
-      let yes = c.is_before.ensures.1 back in let nope = c.if-is_before.false in absurd (grind arith))
+    let yes = c.is_before.ensures.1 back in let nope = c.if-is_before.false in absurd (grind arith))
 
 pub returns-in-None : goal.returns-in-None
 returns-in-None c low h =
