@@ -1,14 +1,12 @@
 -- What is read from a row, as the members say it.
-use Rattle.std.proofs.Common.{◌≡◌, ◌∙◌, ap, sym, subst, refl, ℕ, ◌+◌, ◌<◌, ◌&&◌, ◌||◌, Bool, true, false, cond, List, [], ◌∷◌, ◌++◌, length, get_or, drop, map, Option, Some, None, option_map, option_and_then, is_some, Result, Ok, Err, ok_or, unwrap_or, append-nil, inl, inr, bytes_eq, Ordering, Less, Equal, Greater, nat_cmp, is_eq}
+use Rattle.std.proofs.Common.{◌≡◌, ◌∙◌, ap, sym, subst, refl, ℕ, ◌+◌, ◌<◌, ◌&&◌, ◌||◌, Bool, true, false, cond, List, [], ◌∷◌, ◌++◌, length, get_or, drop, map, Option, Some, None, option_map, option_and_then, is_some, Result, Ok, Err, ok_or, append-nil, inl, inr, bytes_eq, Less}
 use Rattle.std.proofs.lemmas.List.{drop_more}
 use Rattle.std.proofs.lemmas.Bool.{cases_Bool}
 use Rattle.std.proofs.lemmas.Slice.Eq.{bytes_eq-Decides}
-use Rattle.std.specs.Ordering.{match_ordering}
-use Rattle.std.specs.Cmp.Lexicographic.{slice_cmp}
-use Rattle.toml.specs.Data.{Data, Items, Members, no_members, member, get_member, as_table, same_key}
+use Rattle.toml.specs.Data.{Data, Members, no_members, member, get_member, as_table, same_key}
 use Rattle.toml.specs.Tables.{Node, Nodes, no_nodes, node, get_node, close, close_node}
 use Rattle.toml.proofs.NodeLaws.{same_key-self}
-use Rattle.toml_rows.specs.Tables.{order, AreAfter, IsOrdered}
+use Rattle.toml_rows.specs.Tables.{order, IsOrdered}
 use Rattle.toml_rows.specs.Rows.{Row}
 use Rattle.toml_rows.specs.Documents.{IsTable}
 use Rattle.toml_rows.specs.Walking.{first_unknown, items_of}
@@ -20,11 +18,11 @@ use Rattle.class_rules.specs.declared.class.Class.{Class}
 use Rattle.tariff.proofs.PriceLemmas.{passed_on}
 use Rattle.tariff.specs.declared.tiers.Tier.{Tier}
 use Rattle.tariff.specs.declared.fault.TariffFault.{TariffFault}
-use Rattle.tariff.specs.Faults.{TariffFlaw, not_toml, bad_tiers, unknown_field, TariffGives, tariff_flaw_of}
+use Rattle.tariff.specs.Faults.{not_toml, bad_tiers, unknown_field, TariffGives}
 use Rattle.tariff.specs.declared.read.Opened.{Opened}
 use Rattle.tariff.specs.declared.read.Opened.TheVariants.{Inside, Own, Missing}
 use Rattle.tariff.specs.Opened.{IsOpened, is_there, tariff_in}
-use Rattle.tariff.specs.Reading.{tariff_of, document_of, tier_said, tiers_said, first_other, unless_other, is_field, from_name, table_name, table_names}
+use Rattle.tariff.specs.Reading.{tariff_of, document_of, tier_said, tiers_said, first_other, unless_other, is_field, from_name, table_name}
 use Rattle.tariff.specs.declared.fault.TariffTable.TheVariants.{Storage, Transition}
 
 -- ---- names

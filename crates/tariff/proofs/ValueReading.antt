@@ -1,14 +1,9 @@
 -- What values say, by their integers.
-use Rattle.std.proofs.Common.{◌≡◌, Bool, true, false, cond, ℕ, ℤ, pos, negsuc, Option, Some, None, option_map, Result, Ok, Err, ok_or, refl, sym, ap, ◌∙◌}
-use Rattle.toml.specs.Data.{Data, string, integer, float, boolean, datetime, array, table, as_integer, as_str, Items, Members}
-use Rattle.toml_rows.specs.declared.walk.Found.{Found}
-use Rattle.toml_rows.specs.declared.walk.Found.TheVariants as found
-use Rattle.toml_rows.specs.Rows.{Row}
-use Rattle.toml_rows.specs.Walking.{Says}
+use Rattle.std.proofs.Common.{◌≡◌, Bool, true, false, cond, ℕ, ℤ, pos, negsuc, Option, Some, None, refl}
+use Rattle.toml.specs.Data.{Data, string, integer, float, boolean, datetime, array, table, as_integer, as_str}
 use Rattle.tariff.specs.Prices.{is_price}
-use Rattle.tariff.specs.Opened.{price_by, upto_by, one_at}
-use Rattle.tariff.specs.Reading.{price_of, upto_of, month_said, tiers_of}
-use Rattle.class_rules.specs.declared.class.Class.{Class}
+use Rattle.tariff.specs.Opened.{price_by, upto_by}
+use Rattle.tariff.specs.Reading.{price_of, upto_of, month_said}
 
 pub price_is : (d : Data) → price_of d ≡ price_by (as_integer d)
 price_is (integer (pos p)) = refl

@@ -1,8 +1,8 @@
 -- How what is read from a row of parts stands to the members of a document.
-use Rattle.std.specs.Prelude.{◌≡◌, ℕ, pos, negsuc, Bool, true, false, ◌&&◌, nat_le, List, if◌then◌else◌, Option, Some, None, option_map, option_and_then, Result, Ok, Err, ok_or, IfSome}
+use Rattle.std.specs.Prelude.{◌≡◌, ℕ, pos, negsuc, Bool, true, false, ◌&&◌, nat_le, List, if◌then◌else◌, Option, Some, None, option_map, Result, Ok, Err, ok_or, IfSome}
 use Rattle.std.specs.Prelude.{ℤ}
 use Rattle.office_base.specs.Results.{◌>>=◌}
-use Rattle.toml.specs.Data.{Data, Members, no_members, as_table, get_member}
+use Rattle.toml.specs.Data.{Members, no_members, get_member}
 use Rattle.toml_rows.specs.declared.keys.Keys.{Keys}
 use Rattle.toml_rows.specs.Rows.{Row, row_of}
 use Rattle.toml_rows.specs.Documents.{IsTable}
@@ -14,7 +14,7 @@ use Rattle.tariff.specs.declared.fault.TariffFault.{TariffFault}
 use Rattle.tariff.specs.declared.tiers.Tier.{Tier}
 use Rattle.tariff.specs.Faults.{TariffFlaw, not_toml, bad_price, tariff_flaw_of}
 use Rattle.tariff.specs.Prices.{Prices, is_price, one_tier}
-use Rattle.tariff.specs.Reading.{document_of, table_name, from_name, from_of, members_of, with_fields, with_classes, each_of, tiers_in, price_in, classes_of}
+use Rattle.tariff.specs.Reading.{document_of, from_name, from_of, members_of, with_fields, with_classes, each_of, tiers_in, price_in, classes_of}
 
 -- the row of the document, or the fault
 abbrev pub ReadsDocument : List ℕ → Result Keys TariffFault → Type 0

@@ -1,6 +1,4 @@
-use Rattle.std.proofs.Common.{◌≡◌, refl, subst, ap, sym, List, ℕ, Option}
-use Rattle.toml.specs.Data.{Members}
-use Rattle.toml_rows.specs.Walking.{first_unknown}
+use Rattle.std.proofs.Common.{refl, subst, sym, List, ℕ, Option}
 use Rattle.tariff.specs.Faults.{TariffGives}
 use Rattle.tariff.specs.Reading.{unless_other, is_class_name, with_classes}
 use Rattle.tariff.specs.declared.fault.TariffTable.{TariffTable}

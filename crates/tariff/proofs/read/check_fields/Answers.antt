@@ -1,4 +1,4 @@
-use Rattle.std.proofs.Common.{◌≡◌, ◌||◌, ◌&&◌, Bool, true, false, refl, subst, ap, sym, ◌∙◌, List, ℕ, Option, bytes_eq}
+use Rattle.std.proofs.Common.{◌≡◌, true, false, subst, sym, ◌∙◌, List, ℕ, Option, bytes_eq}
 use Rattle.toml_rows.specs.Rows.{row_of}
 use Rattle.tariff.specs.Faults.{TariffGives}
 use Rattle.tariff.specs.Reading.{unless_other, is_field, from_name, table_name}

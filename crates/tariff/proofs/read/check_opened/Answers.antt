@@ -1,11 +1,10 @@
-use Rattle.std.proofs.Common.{◌≡◌, sym, subst, Option, unwrap_or}
+use Rattle.std.proofs.Common.{sym, subst, Option, unwrap_or}
 use Rattle.toml.specs.Data.{Members, no_members}
 use Rattle.toml_rows.specs.Rows.{row_of}
 use Rattle.tariff.specs.declared.read.Opened.TheVariants.{Inside, Own, Missing}
-use Rattle.tariff.specs.declared.fault.TariffTable.TheVariants.{Storage}
 use Rattle.tariff.specs.Faults.{TariffGives}
 use Rattle.tariff.specs.Opened.{IsOpened}
-use Rattle.tariff.specs.Reading.{with_classes, each_of, tiers_in, classes_of}
+use Rattle.tariff.specs.Reading.{with_classes}
 use Rattle.tariff.proofs.read.check_opened.Goals as goal
 
 pub returns-in-Inside : goal.returns-in-Inside

@@ -1,4 +1,4 @@
-use Rattle.std.proofs.Common.{◌≡◌, ◌∙◌, sym, ap, None}
+use Rattle.std.proofs.Common.{◌∙◌, ap, None}
 use Rattle.toml.specs.Data.{as_table}
 use Rattle.toml_rows.specs.Rows.{row_of}
 use Rattle.toml_rows.specs.Walking.{Says, IsInline}

@@ -1,4 +1,4 @@
-use Rattle.std.proofs.Common.{◌≡◌, ◌∙◌, sym, ap, Option, Ok, Err, unwrap_or, rules}
+use Rattle.std.proofs.Common.{◌≡◌, ◌∙◌, ap, Option, Err, unwrap_or, rules}
 use Rattle.toml.specs.Data.{Members, no_members}
 use Rattle.toml_rows.specs.Rows.{row_of}
 use Rattle.office_base.proofs.Results.{told_on}

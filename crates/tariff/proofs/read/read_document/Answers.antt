@@ -1,4 +1,4 @@
-use Rattle.std.proofs.Common.{◌≡◌, ◌∙◌, sym, ap, Some, None}
+use Rattle.std.proofs.Common.{◌∙◌, sym, ap, Some, None}
 use Rattle.toml.specs.Parse.{parse_document}
 use Rattle.toml_rows.specs.Documents.{IsDocument}
 use Rattle.tariff.specs.Faults.{not_toml}

@@ -1,8 +1,8 @@
-use Rattle.std.proofs.Common.{◌≡◌, Some, None, Ok, Err, ok_or, ap, sym, ◌∙◌}
+use Rattle.std.proofs.Common.{Ok, ok_or, ap, sym, ◌∙◌}
 use Rattle.toml_rows.specs.Rows.{row_of}
 use Rattle.toml.specs.Data.{get_member}
 use Rattle.tariff.specs.Faults.{bad_from}
-use Rattle.tariff.specs.Reading.{from_of, from_name}
+use Rattle.tariff.specs.Reading.{from_of}
 use Rattle.tariff.proofs.read.read_from.Goals as goal
 
 pub returns-in-Some-2 : goal.returns-in-Some-2

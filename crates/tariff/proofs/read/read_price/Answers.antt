@@ -1,4 +1,4 @@
-use Rattle.std.proofs.Common.{◌≡◌, Some, None, Ok, Err, ok_or, ap, sym, ◌∙◌}
+use Rattle.std.proofs.Common.{ok_or, ap, sym, ◌∙◌}
 use Rattle.toml_rows.specs.Rows.{row_of}
 use Rattle.toml.specs.Data.{get_member}
 use Rattle.tariff.specs.Faults.{bad_price}

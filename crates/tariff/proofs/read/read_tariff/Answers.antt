@@ -1,4 +1,4 @@
-use Rattle.std.proofs.Common.{◌≡◌, ◌∙◌, sym, ap, Option, Ok, Err, option_and_then, is_some, unwrap_or, rules}
+use Rattle.std.proofs.Common.{◌≡◌, ◌∙◌, ap, Option, Ok, Err, option_and_then, unwrap_or, rules}
 use Rattle.toml.specs.Data.{Members, no_members, as_table, get_member}
 use Rattle.toml_rows.specs.Rows.{row_of}
 use Rattle.office_base.specs.Results.{◌>>=◌}
@@ -6,7 +6,7 @@ use Rattle.office_base.proofs.Results.{told_on}
 use Rattle.tariff.specs.declared.fault.TariffTable.TheVariants.{Storage, Transition}
 use Rattle.tariff.specs.Faults.{tariff_flaw_of}
 use Rattle.tariff.specs.Opened.{tariff_in, with_document, with_month, with_storage, with_tables, with_stored}
-use Rattle.tariff.specs.Reading.{table_name, from_name, from_of, with_fields, with_classes, members_of, each_of, tiers_in, price_in, classes_of}
+use Rattle.tariff.specs.Reading.{table_name, from_name, from_of, with_fields, with_classes, each_of, tiers_in, price_in, classes_of}
 use Rattle.tariff.proofs.RowReading.{there_is}
 use Rattle.tariff.proofs.read.read_tariff.Goals as goal
 

@@ -1,4 +1,4 @@
-use Rattle.std.proofs.Common.{◌≡◌, ◌∙◌, sym, ap, Some, Ok, Err, rules}
+use Rattle.std.proofs.Common.{◌≡◌, ◌∙◌, sym, ap, Err, rules}
 use Rattle.toml.specs.Data.{get_member}
 use Rattle.tariff.specs.Reading.{tiers_of, tiers_at, tiers_in}
 use Rattle.office_base.proofs.Results.{told_on}

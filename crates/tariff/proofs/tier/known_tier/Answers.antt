@@ -1,4 +1,4 @@
-use Rattle.std.proofs.Common.{◌≡◌, ap, ap₂, sym, ◌∙◌, codes}
+use Rattle.std.proofs.Common.{ap, ap₂, ◌∙◌}
 use Rattle.toml.specs.Data.{get_member}
 use Rattle.toml_rows.specs.Rows.{row_of}
 use Rattle.tariff.specs.Reading.{tier_by, end_said}

@@ -1,6 +1,6 @@
-use Rattle.std.proofs.Common.{◌≡◌, refl, Some, None, cond, is_none, codes, ap, sym, ◌∙◌, List, ℕ}
+use Rattle.std.proofs.Common.{refl, None, cond, is_none, codes, ap, ◌∙◌}
 use Rattle.toml.specs.Data.{get_member}
-use Rattle.tariff.specs.Reading.{is_tier_name, tier_by, end_said, first_other}
+use Rattle.tariff.specs.Reading.{is_tier_name, tier_by, end_said}
 use Rattle.tariff.proofs.RowReading.{first_same, agree_all}
 use Rattle.tariff.proofs.tier.tier_among.Goals as goal
 

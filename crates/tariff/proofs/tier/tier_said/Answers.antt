@@ -1,4 +1,4 @@
-use Rattle.std.proofs.Common.{◌≡◌, ◌-◌, Some, option_and_then, ap, sym, ◌∙◌}
+use Rattle.std.proofs.Common.{◌-◌, Some, option_and_then, ap, sym, ◌∙◌}
 use Rattle.toml_rows.specs.Walking.{IsInline}
 use Rattle.tariff.specs.Reading.{tier_among}
 use Rattle.tariff.proofs.tier.tier_said.Goals as goal

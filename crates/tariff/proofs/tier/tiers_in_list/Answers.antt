@@ -1,10 +1,10 @@
-use Rattle.std.proofs.Common.{◌≡◌, ◌∙◌, ◌++◌, ◌∷◌, [], ◌+◌, sym, ap, drop, get_or, List, ℕ, Some, None, Bor, rules}
+use Rattle.std.proofs.Common.{◌≡◌, ◌∙◌, ◌++◌, ◌∷◌, [], ◌+◌, sym, ap, drop, List, ℕ, Bor, rules}
 use Rattle.std.proofs.lemmas.List.{drop_all}
 use Rattle.toml_rows.specs.Reading.{data_at}
 use Rattle.toml_rows.specs.Walking.{items_of, data_of_all}
 use Rattle.office_base.proofs.Results.{joined, joined-nil}
 use Rattle.tariff.specs.declared.tiers.Tier.{Tier}
-use Rattle.tariff.specs.Reading.{tier_said, tiers_said}
+use Rattle.tariff.specs.Reading.{tiers_said}
 use Rattle.tariff.proofs.RowReading.{said_on, said_refused, said_end}
 use Rattle.tariff.proofs.tier.tiers_in_list.Goals as goal
 

@@ -1,13 +1,13 @@
-use Rattle.std.proofs.Common.{◌≡◌, ◌∙◌, ◌++◌, ◌∷◌, [], ◌+◌, sym, ap, drop, get_or, List, ℕ, Some, None, option_and_then, refl, rules}
+use Rattle.std.proofs.Common.{◌≡◌, ◌∙◌, ◌++◌, ◌∷◌, [], ◌+◌, sym, ap, drop, get_or, List, ℕ, refl, rules}
 use Rattle.std.proofs.lemmas.List.{drop_all}
-use Rattle.toml.specs.Data.{Data, Items, table}
-use Rattle.toml.specs.Tables.{Nodes, close}
+use Rattle.toml.specs.Data.{Data, table}
+use Rattle.toml.specs.Tables.{close}
 use Rattle.toml_rows.specs.Rows.{row_of}
 use Rattle.toml_rows.specs.Documents.{IsTable}
 use Rattle.toml_rows.specs.Walking.{items_of, tables_of}
 use Rattle.office_base.proofs.Results.{joined, joined-nil}
 use Rattle.tariff.specs.declared.tiers.Tier.{Tier}
-use Rattle.tariff.specs.Reading.{tier_said, tiers_said}
+use Rattle.tariff.specs.Reading.{tiers_said}
 use Rattle.tariff.proofs.RowReading.{said_on, said_refused, said_end}
 use Rattle.tariff.proofs.tier.tiers_in_tables.Goals as goal
 

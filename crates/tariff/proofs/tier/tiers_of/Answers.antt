@@ -1,4 +1,4 @@
-use Rattle.std.proofs.Common.{◌≡◌, ◌∙◌, sym, ap, Ok, Err, rules}
+use Rattle.std.proofs.Common.{◌≡◌, ◌∙◌, ap, Err, rules}
 use Rattle.toml_rows.specs.Rows.{row_of}
 use Rattle.toml_rows.specs.Walking.{Says}
 use Rattle.toml_rows.specs.declared.walk.Found.TheVariants as found

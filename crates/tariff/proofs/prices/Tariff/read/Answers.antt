@@ -1,4 +1,4 @@
-use Rattle.std.proofs.Common.{◌≡◌, ◌∙◌, sym, ap, Ok, Err, ok_or, rules}
+use Rattle.std.proofs.Common.{◌≡◌, ◌∙◌, ap, Err, ok_or, rules}
 use Rattle.office_base.specs.Results.{◌>>=◌}
 use Rattle.office_base.proofs.Results.{told_on}
 use Rattle.tariff.specs.Faults.{tariff_flaw_of, not_toml}
