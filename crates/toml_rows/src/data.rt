@@ -22,7 +22,8 @@ pub fn inline(alloc: Global, text: &str, depth: usize) -> Result<Option<Keys<'_>
     if first(text) != b'{' {
         return Ok(None);
     }
-    match inline_table(alloc, skip(text, 1), depth - 1) {
+    // A part takes at least two bytes of the text.
+    match inline_table(alloc, skip(text, 1), depth - 1, text.len() / 2) {
         Ok((keys, _)) => Ok(Some(keys)),
         Err(e) => match e {
             ParseError::OutOfMemory => Err(AllocError),

@@ -37,7 +37,14 @@ impl<'s> Keys<'s> {
     pub fn new(alloc: Global) -> Result<Keys<'s>, AllocError>
         ensures { IfOk result (λ keys. IsEmpty (row_of keys)) }
     {
-        let mut parts = Vec::new(alloc);
+        Keys::with_room(alloc, 0)
+    }
+
+    /// No keys, with room for so many parts: a row that grows is copied, and both copies stand for a while.
+    pub fn with_room(alloc: Global, room: usize) -> Result<Keys<'s>, AllocError>
+        ensures { IfOk result (λ keys. IsEmpty (row_of keys)) }
+    {
+        let mut parts = Vec::with_capacity(alloc, room)?;
         let mut names = Names::new(alloc);
         names.push(&[])?;
         let root = Part {

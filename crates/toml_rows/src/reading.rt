@@ -25,7 +25,8 @@ pub enum Definition<'s> {
 pub fn document(alloc: Global, s: &str) -> Result<Keys<'_>, ParseError>
     ensures { GivesTable recursion_limit result (spec.parse_document s.now) }
 {
-    let mut keys = Keys::new(alloc)?;
+    // A part takes at least two bytes of the text.
+    let mut keys = Keys::with_room(alloc, s.len() / 2)?;
     let mut section = 0;
     let mut rest = skip_bom(s);
     'lines: loop {

@@ -29,7 +29,7 @@ pub(crate) fn value(alloc: Global, s: &str, depth: usize) -> Result<&str, ParseE
         let rest = array(alloc, skip(s, 1), depth - 1)?;
         Ok(rest)
     } else {
-        let (_, rest) = inline_table(alloc, skip(s, 1), depth - 1)?;
+        let (_, rest) = inline_table(alloc, skip(s, 1), depth - 1, 0)?;
         Ok(rest)
     }
 }
@@ -64,13 +64,13 @@ fn array(alloc: Global, s: &str, depth: usize) -> Result<&str, ParseError>
     }
 }
 
-/// Reads the rest of an inline table.
+/// Reads the rest of an inline table; `room` is for how many parts room is taken ahead.
 #[cycle(value)]
-pub fn inline_table(alloc: Global, s: &str, depth: usize) -> Result<(Keys<'_>, &str), ParseError>
+pub fn inline_table(alloc: Global, s: &str, depth: usize, room: usize) -> Result<(Keys<'_>, &str), ParseError>
     ensures value { (n : ℕ) → length s.now < n → ReadsTable depth result (spec.members (spec.val depth) n no_nodes s.now) }
     ensures shorter { Shortens s.now result }
 {
-    let mut keys = Keys::new(alloc)?;
+    let mut keys = Keys::with_room(alloc, room)?;
     let mut rest = s;
     'members: loop {
         let start = skip_blank(rest, true);
