@@ -66,7 +66,12 @@ fn array(alloc: Global, s: &str, depth: usize) -> Result<&str, ParseError>
 
 /// Reads the rest of an inline table; `room` is for how many parts room is taken ahead.
 #[cycle(value)]
-pub fn inline_table(alloc: Global, s: &str, depth: usize, room: usize) -> Result<(Keys<'_>, &str), ParseError>
+pub fn inline_table(
+    alloc: Global,
+    s: &str,
+    depth: usize,
+    room: usize,
+) -> Result<(Keys<'_>, &str), ParseError>
     ensures value { (n : ℕ) → length s.now < n → ReadsTable depth result (spec.members (spec.val depth) n no_nodes s.now) }
     ensures shorter { Shortens s.now result }
 {
