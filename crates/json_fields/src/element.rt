@@ -5,7 +5,7 @@ ghost use Rattle.serde_json.specs.Data.{Items as DataItems};
 ghost use Rattle.serde_json.specs.Find.{as_str, as_bool, as_array, as_object};
 ghost use Rattle.json_fields.specs.Fields.{whole_number};
 ghost use Rattle.json_fields.specs.Nodes.{text_in, value_of};
-ghost use Rattle.json_fields.specs.Elements.{data_of, elements_left, fields_left};
+ghost use Rattle.json_fields.specs.Elements.{data_of, elements_left, elements_count, fields_left, fields_count};
 
 use crate::node::{Node, below, split};
 
@@ -113,7 +113,7 @@ impl<'t, 'a> Elements<'t, 'a> {
     pub fn next(&mut self) -> Option<Element<'t, 'a>>
         ensures value { (more : DataItems) → MatchOption result (elements_left self.old more ≡ more)
             (λ e. elements_left self.old more ≡ elements_left self.new (item (data_of e) more)) }
-        ensures fewer { OnSome result (self.new.left < self.old.left) }
+        ensures fewer { OnSome result (elements_count self.new < elements_count self.old) }
     {
         if self.left == 0 || self.nodes.is_empty() {
             return None;
@@ -131,7 +131,7 @@ impl<'t, 'a> ObjectFields<'t, 'a> {
     pub fn next(&mut self) -> Option<(&'a str, Element<'t, 'a>)>
         ensures value { MatchOption result (fields_left self.old ≡ no_members)
             (λ f. fields_left self.old ≡ put f.0.now (data_of f.1) (fields_left self.new)) }
-        ensures fewer { OnSome result (self.new.left < self.old.left) }
+        ensures fewer { OnSome result (fields_count self.new < fields_count self.old) }
     {
         let value = below(self.nodes, 1);
         if self.left < 2 || value.is_empty() {

@@ -1,7 +1,7 @@
 use Rattle.std.proofs.Common.{◌≡◌}
 use Rattle.std.specs.List.Sorted.{IsStrictlySortedBy}
 use Rattle.std.specs.Map.{keys_of}
-use Rattle.json_fields.specs.Elements.{fields_left}
+use Rattle.json_fields.specs.Elements.{fields_left, fields_count}
 use Rattle.http_bodies.proofs.PairLemmas.{names_cmp, over}
 use Rattle.http_bodies.proofs.pairs.texts.Given as goal
 
@@ -11,4 +11,4 @@ invariant-fields l = (fields_left l.fn.fields ≡ over l.texts.entries (fields_l
     × IsStrictlySortedBy names_cmp (keys_of l.texts.entries)
 
 abbrev pub decreases-fields : goal.decreases-fields
-decreases-fields l = l.fields.left
+decreases-fields l = fields_count l.fields

@@ -3,7 +3,7 @@ use Rattle.std.specs.List.{find}
 use Rattle.office_base.specs.Texts.{is_among}
 use Rattle.json_fields.specs.Fields.{names_of}
 use Rattle.json_fields.specs.Names.{earlier}
-use Rattle.json_fields.specs.Elements.{fields_left}
+use Rattle.json_fields.specs.Elements.{fields_left, fields_count}
 use Rattle.json_fields.proofs.element.Element.first_unknown.Given as goal
 
 -- the first so far, and those that are left
@@ -14,4 +14,4 @@ invariant-names l =
     ≡ find unknown (names_of (fields_left l.initial.fields))
 
 abbrev pub decreases-names : goal.decreases-names
-decreases-names l = l.fields.left
+decreases-names l = fields_count l.fields
