@@ -1,9 +1,9 @@
 -- What a row stands for after a change.
-use Rattle.std.proofs.Common.{◌≡◌, ℕ, ◌+◌, ◌<◌, ◌≤◌, ◌==◌, Bool, true, false, cond, List, [], ◌∷◌, ◌++◌, Option, Some, None, option_map, refl, sym, ap, ap₂, ◌∙◌, subst, arith, inl, inr, ◌⊎◌}
+use Rattle.std.proofs.Common.{◌≡◌, ℕ, ◌<◌, ◌==◌, true, false, List, [], ◌∷◌, ◌++◌, Some, refl, sym, ap, ap₂, ◌∙◌, subst, arith, inl, inr, ◌⊎◌}
 use Rattle.std.proofs.lemmas.Bool.{cases_eq}
 use Rattle.std.proofs.lemmas.Bool.Decides.{nat_tests}
-use Rattle.toml.specs.Data.{Data, table, Items, no_items, push_item}
-use Rattle.toml.specs.Tables.{Node, Nodes, no_nodes, value, open_table, open_array, implicit, dotted, header, get_node, insert, replace, close, Edit, along_header}
+use Rattle.toml.specs.Data.{Data, Items, no_items}
+use Rattle.toml.specs.Tables.{Node, Nodes, no_nodes, open_table, open_array, implicit, dotted, header, get_node, insert, replace, along_header}
 use Rattle.toml.proofs.NodeLaws.{get_node-insert, get_node-replace}
 use Rattle.toml_rows.specs.declared.row.What.{What}
 use Rattle.toml_rows.specs.declared.row.What.TheVariants.{Value, Implicit, Dotted, Header, Tables, Element}
@@ -11,7 +11,7 @@ use Rattle.toml_rows.specs.Search.{none}
 use Rattle.toml_rows.specs.Rows.{is_key, is_open, is_table, is_plain, inside, Row, HasKey, Grows, Sets, Nexts}
 use Rattle.toml_rows.specs.Tables.{IsOrdered, IsTree, node_of, done_of, IsTold, Leads, at_root, step}
 use Rattle.toml_rows.proofs.NodeLemmas.{get_node-replace_other, get_node-insert_other, ordered-insert, ordered-replace}
-use Rattle.toml_rows.proofs.TableLemmas.{put_at-all, put_at, put_at-same, put_at-other, node_same, inside_one, inside_within, inside_after, inside_root, leads_within, Climbed, climb}
+use Rattle.toml_rows.proofs.TableLemmas.{put_at-all, put_at, put_at-same, put_at-other, node_same, inside_within, inside_after, Climbed, climb}
 
 -- after a change of the table at the end of a path
 pub record Changed (datum : ℕ → Data) (new : Row) (p : List (List ℕ)) (was is top : Nodes) : Type 0 where

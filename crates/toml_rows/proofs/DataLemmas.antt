@@ -1,5 +1,5 @@
 -- What the value that a text begins with says.
-use Rattle.std.proofs.Common.{◌≡◌, ℕ, zero, suc, ◌-◌, ◌<◌, ◌==◌, ◌||◌, Bool, true, false, cond, List, [], ◌∷◌, ◌++◌, length, drop, map, Option, Some, None, option_map, string_bytes, refl, sym, ap, ◌∙◌, inl, inr, ◌⊎◌, arith}
+use Rattle.std.proofs.Common.{◌≡◌, ℕ, zero, suc, ◌-◌, ◌<◌, ◌==◌, ◌||◌, true, false, List, [], ◌∷◌, ◌++◌, length, drop, Option, Some, None, option_map, refl, ap, ◌∙◌, inl, inr, arith}
 use Rattle.std.proofs.lemmas.Bool.{cases_Bool}
 use Rattle.std.proofs.lemmas.Bool.Decides.{nat_tests}
 use Rattle.std.specs.Borrow.{Bor}
@@ -11,7 +11,7 @@ use Rattle.toml_parser.specs.declared.scalar.Scalar.TheVariants.{Boolean, Intege
 use Rattle.toml.specs.Data.{Data, string, array, table, as_integer, as_str, as_table, as_array, Items, no_items, item, push_item, Members}
 use Rattle.toml.specs.Tables.{no_nodes}
 use Rattle.toml.specs.Parse.{read_map, scalar_data, atom, val, items, members}
-use Rattle.toml.proofs.Turns.{val_atom, val_array, val_table, val_deep, val_open_array, val_open_table}
+use Rattle.toml.proofs.Turns.{val_atom, val_deep, val_open_array, val_open_table}
 use Rattle.toml_rows.specs.Reading.{data_in, data_at}
 use Rattle.toml_rows.specs.Walking.{items_of, data_of_all}
 

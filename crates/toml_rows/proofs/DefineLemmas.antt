@@ -1,22 +1,21 @@
 -- What is defined at the last part of a key.
-use Rattle.std.proofs.Common.{◌≡◌, ℕ, ◌+◌, ◌<◌, ◌≤◌, ◌==◌, Bool, true, false, cond, List, [], ◌∷◌, ◌++◌, length, length-append, get_or, Option, Some, None, option_map, option_and_then, refl, sym, ap, ap₂, ◌∙◌, subst, arith, inl, inr, ◌⊎◌}
+use Rattle.std.proofs.Common.{◌≡◌, ℕ, ◌<◌, ◌==◌, true, false, List, [], ◌∷◌, ◌++◌, length, length-append, get_or, Some, None, option_and_then, refl, sym, ap, ap₂, ◌∙◌, subst, arith, inl, inr}
 use Rattle.std.proofs.lemmas.Bool.{cases_eq}
 use Rattle.std.proofs.lemmas.Bool.Decides.{nat_tests}
 use Rattle.std.proofs.lemmas.List.{get_or_append_left, get_or_at}
 use Rattle.toml.specs.Data.{Data, table, Items, no_items, push_item}
-use Rattle.toml.specs.Tables.{Definition, key_value, std_table, array_table, new_node, redefine, at_key, close, Node, Nodes, no_nodes, value, open_table, open_array, implicit, dotted, header, get_node, insert, replace, Edit, along_header, along_dots, put}
+use Rattle.toml.specs.Tables.{Definition, key_value, std_table, array_table, redefine, at_key, close, Nodes, no_nodes, value, open_table, open_array, header, insert, replace, Edit, along_header, along_dots, put}
 use Rattle.toml.proofs.NodeLaws.{seq, along_seq, replace-insert}
 use Rattle.toml.proofs.Turns.{at_key_ok, at_key_err, at_key_new}
 use Rattle.toml_rows.specs.declared.row.What.{What}
 use Rattle.toml_rows.specs.declared.row.What.TheVariants.{Value, Implicit, Dotted, Header, Tables, Element}
 use Rattle.toml_rows.specs.Search.{none}
-use Rattle.toml_rows.specs.Rows.{is_key, is_open, is_table, is_plain, inside, Row, HasKey, Grows, Sets, Nexts, Pushes, Adds, Puts, IsFound, NextOf, with_value}
-use Rattle.toml_rows.specs.Tables.{IsTree, node_of, done_of, IsTold, Leads, at_root, step}
+use Rattle.toml_rows.specs.Rows.{is_key, is_table, Row, HasKey, Nexts, Pushes, Adds, Puts, NextOf, with_value}
+use Rattle.toml_rows.specs.Tables.{node_of, done_of, IsTold, Leads, at_root, step}
 use Rattle.toml_rows.specs.Reading.{data_at, datum_of, Holds, Entered, Keeps}
-use Rattle.toml_rows.proofs.TableLemmas.{leads_within}
-use Rattle.toml_rows.proofs.ChangeLemmas.{Changed, fresh, next_added, next_last, next_newer, new_key}
+use Rattle.toml_rows.proofs.ChangeLemmas.{next_added, next_last, new_key}
 use Rattle.toml_rows.proofs.RowLemmas.{found_put, found_push}
-use Rattle.toml_rows.proofs.EnterLemmas.{told_at, gone_at, refused_at, agree_at, keeps_add, inserted, leads_new, keeps_put, put_there, leads_put}
+use Rattle.toml_rows.proofs.EnterLemmas.{told_at, gone_at, refused_at, agree_at, keeps_add, inserted, leads_new, put_there, leads_put}
 
 -- ---- one more value
 

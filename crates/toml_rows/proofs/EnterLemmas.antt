@@ -1,23 +1,20 @@
 -- One key of a path: what the row stands for after it.
-use Rattle.std.proofs.Common.{◌≡◌, ℕ, ◌+◌, ◌<◌, ◌≤◌, Bool, true, false, List, [], ◌∷◌, ◌++◌, length, get_or, Option, Some, None, option_map, option_and_then, Result, Ok, Err, MatchResult, append_assoc, refl, sym, ap, ap₂, ◌∙◌, subst, arith, inl, inr, ◌⊎◌}
+use Rattle.std.proofs.Common.{◌≡◌, ℕ, ◌<◌, true, false, List, [], ◌∷◌, ◌++◌, length, Some, None, Result, Ok, Err, MatchResult, append_assoc, refl, sym, ap, ◌∙◌, subst, arith, inl, inr, ◌⊎◌}
 use Rattle.std.proofs.lemmas.Bool.{cases_eq}
 use Rattle.std.proofs.lemmas.List.{append-nil}
 use Rattle.std.specs.Result.{IsErrAnd}
 use Rattle.toml_parser.specs.declared.error.ParseError.{ParseError}
 use Rattle.toml_parser.specs.declared.error.ParseError.TheVariants.{OutOfMemory}
 use Rattle.toml_rows.proofs.PathLemmas.{along_same, header_more, dots_more}
-use Rattle.toml.specs.Data.{Data, table, Items, no_items, push_item}
-use Rattle.toml.specs.Tables.{Definition, key_value, std_table, array_table, new_node, redefine, at_key, close, Node, Nodes, no_nodes, value, open_table, open_array, implicit, dotted, header, get_node, insert, replace, Edit, along_header, along_dots}
-use Rattle.toml.proofs.NodeLaws.{seq, along_seq, replace-insert}
-use Rattle.toml.proofs.Turns.{at_key_ok, at_key_err, at_key_new}
+use Rattle.toml.specs.Data.{Data, Items}
+use Rattle.toml.specs.Tables.{Nodes, get_node, insert, replace, Edit, along_header, along_dots}
 use Rattle.toml_rows.specs.declared.row.What.{What}
 use Rattle.toml_rows.specs.declared.row.What.TheVariants.{Value, Implicit, Dotted, Header, Tables, Element}
-use Rattle.toml_rows.specs.Search.{none}
-use Rattle.toml_rows.specs.Rows.{is_key, is_open, is_table, is_plain, inside, Row, HasKey, Grows, Sets, Nexts, Adds, Puts}
-use Rattle.toml_rows.specs.Tables.{IsTree, node_of, IsTold, Leads, at_root, step}
-use Rattle.toml_rows.specs.Reading.{data_at, datum_of, Holds, Entered, Keeps, mark_header, mark_dots, pass_header, pass_dots, is_dots}
+use Rattle.toml_rows.specs.Rows.{is_key, is_open, is_table, is_plain, inside, Row, HasKey, Adds, Puts}
+use Rattle.toml_rows.specs.Tables.{node_of, IsTold, Leads, step}
+use Rattle.toml_rows.specs.Reading.{datum_of, Holds, Entered, Keeps, mark_header, mark_dots, pass_header, pass_dots, is_dots}
 use Rattle.toml_rows.proofs.TableLemmas.{climb, leads_within, agree, fall}
-use Rattle.toml_rows.proofs.ChangeLemmas.{Changed, fresh, added, leads_grown, new_key, replaced, leads_set, table_open, table_inside}
+use Rattle.toml_rows.proofs.ChangeLemmas.{fresh, added, leads_grown, new_key, replaced, leads_set, table_open, table_inside}
 use Rattle.toml_rows.proofs.RowLemmas.{found_put}
 
 -- ---- marks

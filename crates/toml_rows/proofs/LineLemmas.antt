@@ -1,9 +1,9 @@
 -- A line, and what it defines.
-use Rattle.std.proofs.Common.{◌≡◌, ℕ, ◌==◌, false, List, [], ◌∷◌, ◌++◌, Option, Some, None, option_map, ap}
+use Rattle.std.proofs.Common.{◌≡◌, ℕ, ◌==◌, false, List, [], ◌∷◌, ◌++◌, Some, None, option_map, ap}
 use Rattle.toml_parser.specs.Lexical.{first}
 use Rattle.toml_parser.specs.Strings.{Key, recursion_limit}
 use Rattle.toml.specs.Data.{Data}
-use Rattle.toml.specs.Tables.{Nodes, key_value, std_table, array_table, put, at_key, along_header, define, define_as}
+use Rattle.toml.specs.Tables.{Nodes, key_value, std_table, array_table, put, at_key, along_header, define}
 use Rattle.toml.specs.Parse.{expression, key_equals, val}
 
 pub pair_read : (text at_value after : List ℕ) (key : Key) (d : Data) → (first text == 91) ≡ false → key_equals text ≡ Some (key, at_value)

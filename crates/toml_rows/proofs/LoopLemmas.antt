@@ -1,16 +1,14 @@
 -- The root alone, and what follows a value.
-use Rattle.std.proofs.Common.{◌≡◌, ℕ, zero, suc, ◌+◌, ◌-◌, ◌<◌, ◌≤◌, ◌==◌, Bool, true, false, List, [], ◌∷◌, ◌++◌, length, drop, get_or, Option, Some, None, option_map, refl, sym, ap, ap₂, ◌∙◌, subst, arith, inl, inr, ◌⊎◌}
-use Rattle.toml_parser.specs.Lexical.{Read, first, skip_blank}
-use Rattle.toml_parser.specs.Strings.{Key}
-use Rattle.toml.specs.Data.{Data, Items, no_items, array, table, push_item, Members, no_members}
-use Rattle.toml.specs.Tables.{Nodes, no_nodes, close, put, Edit, along_header}
-use Rattle.toml.specs.Parse.{read_map, atom, val, after_element, key_equals, items, members}
-use Rattle.toml_rows.specs.declared.row.What.{What}
-use Rattle.toml_rows.specs.declared.row.What.TheVariants.{Value, Implicit, Dotted, Header, Tables, Element}
+use Rattle.std.proofs.Common.{◌≡◌, ℕ, ◌<◌, ◌==◌, true, false, List, [], Option, Some, None, refl, sym, ap, ◌∙◌, arith}
+use Rattle.toml_parser.specs.Lexical.{Read}
+use Rattle.toml.specs.Data.{Data, no_items, no_members}
+use Rattle.toml.specs.Tables.{Nodes, no_nodes, Edit, along_header}
+use Rattle.toml.specs.Parse.{read_map}
+use Rattle.toml_rows.specs.declared.row.What.TheVariants.{Value, Tables, Element}
 use Rattle.toml_rows.specs.Search.{none}
 use Rattle.toml_rows.specs.Rows.{is_key, Row, HasKey, IsEmpty}
-use Rattle.toml_rows.specs.Tables.{IsTree, IsTold, done_of}
-use Rattle.toml_rows.specs.Reading.{data_in, data_at, datum_of, Holds}
+use Rattle.toml_rows.specs.Tables.{done_of}
+use Rattle.toml_rows.specs.Reading.{data_in, datum_of, Holds}
 use Rattle.toml_rows.specs.Documents.{rest_of, IsTable}
 use Rattle.toml_rows.proofs.RowLemmas.{found_empty}
 

@@ -1,7 +1,6 @@
 -- A path, one key after the other.
-use Rattle.std.proofs.Common.{◌≡◌, ℕ, Bool, true, false, List, [], ◌∷◌, ◌++◌, Option, Some, None, option_map, option_and_then, refl, sym, ap, ◌∙◌, inl, inr, ◌⊎◌}
-use Rattle.toml.specs.Data.{Data, Items}
-use Rattle.toml.specs.Tables.{Node, Nodes, no_nodes, value, open_table, open_array, implicit, dotted, header, get_node, insert, replace, Edit, header_node, dot_node, by_dot, along_header, along_dots}
+use Rattle.std.proofs.Common.{◌≡◌, ℕ, List, [], ◌∷◌, ◌++◌, Option, Some, None, option_map, option_and_then, refl, sym, ap, ◌∙◌}
+use Rattle.toml.specs.Tables.{Node, Nodes, no_nodes, value, open_table, open_array, implicit, dotted, header, get_node, insert, replace, Edit, by_dot, along_header, along_dots}
 use Rattle.toml.proofs.NodeLaws.{seq, get_node-insert, get_node-replace, replace-insert, replace-replace, along_found, along_missing, along_seq, along_append, by_header-same}
 use Rattle.toml_rows.specs.Reading.{mark_header, mark_dots, pass_header, pass_dots}
 

@@ -1,15 +1,14 @@
 -- Rows in lists, and the search after a change.
-use Rattle.std.proofs.Common.{◌≡◌, ℕ, ◌+◌, ◌<◌, ◌≤◌, ◌==◌, Bool, true, false, cond, ◌||◌, List, [], ◌∷◌, ◌++◌, length, get_or, refl, sym, ap, ap₂, ◌∙◌, subst, arith, inl, inr, ◌⊎◌, length-append}
+use Rattle.std.proofs.Common.{◌≡◌, ℕ, ◌+◌, ◌<◌, ◌≤◌, ◌==◌, Bool, true, false, ◌||◌, List, [], ◌∷◌, ◌++◌, length, refl, sym, ap, ap₂, ◌∙◌, subst, arith, inl, inr, ◌⊎◌, length-append}
 use Rattle.std.proofs.Math.ListN.{set, length-set}
-use Rattle.std.proofs.lemmas.Bool.{cases_eq, cases_lt}
+use Rattle.std.proofs.lemmas.Bool.{cases_eq}
 use Rattle.std.proofs.lemmas.Bool.Decides.{nat_tests}
 use Rattle.std.proofs.lemmas.List.{get_or_append_left, get_or_at, get_or-set_same, get_or-set_other}
 use Rattle.toml_rows.proofs.TableLemmas.{put_at, put_at-same, put_at-other}
 use Rattle.toml_rows.specs.declared.row.Part.{Part}
 use Rattle.toml_rows.specs.declared.row.What.{What}
-use Rattle.toml_rows.specs.declared.row.What.TheVariants.{Value, Implicit, Dotted, Header, Tables, Element}
 use Rattle.toml_rows.specs.Search.{none, IsSearch, IsAt}
-use Rattle.toml_rows.specs.Rows.{is_key, Row, HasKey, Grows, Sets, Nexts, no_part, part_at, side_of, row_by, key_bit, bit_of, on_of, IsFoundBy, IsFound, IsFree, Pushes, Relinks, Adds, Puts, IsEmpty, IsTurn}
+use Rattle.toml_rows.specs.Rows.{is_key, Row, HasKey, Grows, no_part, part_at, side_of, row_by, key_bit, bit_of, on_of, IsFoundBy, IsFound, IsFree, Pushes, Relinks, Adds, Puts, IsEmpty, IsTurn}
 use Rattle.toml_rows.proofs.SearchLemmas.{same_search, outside, added, at_root, at_next, link_before}
 
 -- ---- one more part in the lists

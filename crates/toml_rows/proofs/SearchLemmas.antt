@@ -1,7 +1,7 @@
 -- The search for a key, a step at a time, and one more part.
-use Rattle.std.proofs.Common.{◌≡◌, ℕ, zero, suc, ◌+◌, ◌-◌, ◌<◌, ◌≤◌, Bool, true, false, refl, ap, sym, ◌∙◌, subst, arith, inl, inr, ◌⊎◌}
+use Rattle.std.proofs.Common.{◌≡◌, ℕ, ◌+◌, ◌<◌, ◌≤◌, Bool, true, false, refl, ap, sym, ◌∙◌, arith, inl, inr, ◌⊎◌}
 use Rattle.std.proofs.lemmas.Bool.{cases_eq, cases_lt}
-use Rattle.toml_rows.specs.Search.{none, Agree, IsLink, IsSearch, IsAt}
+use Rattle.toml_rows.specs.Search.{none, Agree, IsSearch, IsAt}
 
 pub agree_less : (f g : ℕ → Bool) (n k : ℕ) → k ≤ n → Agree f g n → Agree f g k
 agree_less f g n k le h = λ m low. h m (omega arith)

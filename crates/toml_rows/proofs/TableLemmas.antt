@@ -1,16 +1,16 @@
 -- A change of one table is a change at the end of the path that leads to it.
-use Rattle.std.proofs.Common.{◌≡◌, ℕ, ◌+◌, ◌<◌, ◌≤◌, ◌==◌, Bool, true, false, cond, List, [], ◌∷◌, ◌++◌, Option, Some, None, option_map, refl, sym, ap, ◌∙◌, subst, arith, inl, inr, ◌⊎◌}
+use Rattle.std.proofs.Common.{◌≡◌, ℕ, ◌<◌, ◌≤◌, ◌==◌, true, false, cond, List, [], ◌∷◌, ◌++◌, Some, None, option_map, refl, sym, ap, ◌∙◌, subst, arith, inl, inr, ◌⊎◌}
 use Rattle.std.proofs.lemmas.Bool.{cases_eq}
 use Rattle.std.proofs.lemmas.Bool.Decides.{nat_tests}
-use Rattle.toml.specs.Data.{Data, table, Items, no_items, push_item}
-use Rattle.toml.specs.Tables.{Node, Nodes, no_nodes, value, open_table, open_array, implicit, dotted, header, get_node, insert, replace, close, Edit, header_node, along_header}
-use Rattle.toml.proofs.NodeLaws.{get_node-insert, get_node-replace, along_found, along_append}
+use Rattle.toml.specs.Data.{Data, Items}
+use Rattle.toml.specs.Tables.{Nodes, open_table, open_array, implicit, dotted, header, get_node, replace, Edit, header_node, along_header}
+use Rattle.toml.proofs.NodeLaws.{get_node-replace, along_found, along_append}
 use Rattle.toml_rows.specs.declared.row.What.{What}
 use Rattle.toml_rows.specs.declared.row.What.TheVariants.{Value, Implicit, Dotted, Header, Tables, Element}
 use Rattle.toml_rows.specs.Search.{none}
-use Rattle.toml_rows.specs.Rows.{is_key, is_open, inside, Row, HasKey, Grows, Sets}
+use Rattle.toml_rows.specs.Rows.{is_key, is_open, inside, Row, HasKey}
 use Rattle.toml_rows.specs.Tables.{IsOrdered, IsTree, node_of, done_of, IsTold, Leads, at_root, step}
-use Rattle.toml_rows.proofs.NodeLemmas.{same_or_not, get_node-replace_other, get_node-insert_other, ordered-replace}
+use Rattle.toml_rows.proofs.NodeLemmas.{get_node-replace_other, ordered-replace}
 
 -- a function with another answer at one place
 abbrev pub put_at : {X : Type 0} → ℕ → X → (ℕ → X) → ℕ → X

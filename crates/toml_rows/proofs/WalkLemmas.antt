@@ -1,19 +1,18 @@
 -- What a row has at a name, in the data of the document.
-use Rattle.std.proofs.Common.{◌≡◌, ℕ, ◌+◌, ◌<◌, ◌≤◌, ◌==◌, Bool, true, false, cond, List, [], ◌∷◌, ◌++◌, length, get_or, reverse, Option, Some, None, option_map, Ordering, Less, Equal, Greater, nat_cmp, is_eq, refl, sym, ap, ap₂, ◌∙◌, subst, arith, inl, inr, ◌⊎◌}
+use Rattle.std.proofs.Common.{◌≡◌, ℕ, ◌+◌, ◌≤◌, ◌==◌, Bool, true, false, cond, List, [], ◌∷◌, ◌++◌, reverse, Option, Some, None, option_map, Ordering, Less, Equal, Greater, nat_cmp, is_eq, refl, sym, ap, ◌∙◌, arith, inl, inr}
 use Rattle.std.specs.Ordering.{match_ordering}
 use Rattle.std.proofs.lemmas.Bool.Decides.{nat_tests}
 use Rattle.std.proofs.lemmas.List.{reverse-append}
 use Rattle.std.specs.Cmp.Lexicographic.{slice_cmp}
-use Rattle.std.specs.Borrow.{Bor}
-use Rattle.toml.specs.Data.{Data, table, array, Items, no_items, item, push_item, Members, no_members, member, same_key, get_member}
-use Rattle.toml.specs.Tables.{Node, Nodes, no_nodes, node, value, open_table, open_array, implicit, dotted, header, get_node, close, close_node}
+use Rattle.toml.specs.Data.{Data, table, array, Items, no_items, item, push_item, Members, same_key, get_member}
+use Rattle.toml.specs.Tables.{Node, Nodes, no_nodes, node, get_node, close, close_node}
 use Rattle.toml_rows.specs.declared.row.What.{What}
 use Rattle.toml_rows.specs.declared.row.What.TheVariants.{Value, Implicit, Dotted, Header, Tables, Element}
 use Rattle.toml_rows.specs.declared.walk.Found.{Found}
 use Rattle.toml_rows.specs.declared.walk.Found.TheVariants as found
 use Rattle.toml_rows.specs.Search.{none}
 use Rattle.toml_rows.specs.Rows.{is_key, is_table, Row, HasKey}
-use Rattle.toml_rows.specs.Tables.{IsTree, IsTold, node_of, done_of}
+use Rattle.toml_rows.specs.Tables.{node_of, done_of}
 use Rattle.toml_rows.specs.Reading.{data_at, datum_of, Holds}
 use Rattle.toml_rows.specs.Documents.{IsTable}
 use Rattle.std.proofs.lemmas.Bool.{cases_Bool, cases_eq}
@@ -21,8 +20,8 @@ use Rattle.std.proofs.lemmas.Option.{none-some}
 use Rattle.std.proofs.lemmas.Cmp.{nat_list_cmp_total, tied_itself}
 use Rattle.toml.proofs.NodeLaws.{same_key-self}
 use Rattle.toml_rows.specs.Tables.{order, AreAfter, IsOrdered}
-use Rattle.toml_rows.specs.Walking.{IsArray, Says, Finds, SeenAs, first_unknown, IsUnknown, IsLeast, IsLeft, items_of, items_onto, tables_of}
-use Rattle.toml_rows.proofs.NodeLemmas.{same_key-is, same_key-not}
+use Rattle.toml_rows.specs.Walking.{IsArray, Finds, SeenAs, first_unknown, IsUnknown, IsLeast, IsLeft, items_of, items_onto, tables_of}
+use Rattle.toml_rows.proofs.NodeLemmas.{same_key-is}
 
 -- a name among the members
 pub close_get : (k : List ℕ) (ns : Nodes) → get_member k (close ns) ≡ option_map close_node (get_node k ns)

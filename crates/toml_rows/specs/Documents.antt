@@ -1,5 +1,5 @@
 -- What the functions that read values and documents give.
-use Rattle.std.specs.Prelude.{◌≡◌, ℕ, List, [], ◌∷◌, ◌++◌, Option, Some, None, option_map, Result, MatchResult}
+use Rattle.std.specs.Prelude.{◌≡◌, ℕ, List, Option, Some, None, option_map, Result, MatchResult}
 use Rattle.std.specs.Borrow.{Bor}
 use Rattle.toml_parser.specs.declared.error.ParseError.{ParseError}
 use Rattle.toml_parser.specs.declared.error.ParseError.TheVariants.{OutOfMemory}
@@ -7,7 +7,7 @@ use Rattle.toml_parser.specs.declared.key.Key as code
 use Rattle.toml_parser.specs.Lexical.{Read}
 use Rattle.toml_parser.specs.Strings.{recursion_limit}
 use Rattle.toml_parser.specs.Reading.{key_view}
-use Rattle.toml.specs.Data.{Data, Items, Members}
+use Rattle.toml.specs.Data.{Items, Members}
 use Rattle.toml.specs.Tables as spec
 use Rattle.toml.specs.Tables.{Nodes, close, Document, Expression}
 use Rattle.toml.specs.Parse.{parse_document}

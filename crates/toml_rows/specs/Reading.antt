@@ -4,8 +4,8 @@ use Rattle.toml_parser.specs.declared.error.ParseError.{ParseError}
 use Rattle.toml_parser.specs.declared.error.ParseError.TheVariants.{OutOfMemory}
 use Rattle.toml_parser.specs.Lexical.{Read}
 use Rattle.toml_parser.specs.Strings.{Key}
-use Rattle.toml.specs.Data.{Data, boolean, Items, no_items}
-use Rattle.toml.specs.Tables.{Node, Nodes, no_nodes, value, open_table, open_array, implicit, dotted, header, get_node, insert, replace, Edit, along_header, at_key, Definition}
+use Rattle.toml.specs.Data.{Data, boolean, Items}
+use Rattle.toml.specs.Tables.{Node, Nodes, no_nodes, value, open_table, implicit, dotted, get_node, insert, replace, Edit, along_header, at_key, Definition}
 use Rattle.toml.specs.Parse.{val}
 use Rattle.toml_rows.specs.declared.row.What.{What}
 use Rattle.toml_rows.specs.declared.row.What.TheVariants.{Value, Implicit, Dotted}

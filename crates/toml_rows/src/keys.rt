@@ -12,10 +12,10 @@ const TABLE_BITS: usize = 21;
 /// The keys of a document.
 #[derive(Drop)]
 pub struct Keys<'s> {
-    pub parts: Vec<Part>,
-    pub names: Names,
+    pub(crate) parts: Vec<Part>,
+    pub(crate) names: Names,
     /// The text from each value on.
-    pub values: Vec<&'s str>,
+    pub(crate) values: Vec<&'s str>,
 }
 
 // A bit of a key.
@@ -41,7 +41,7 @@ impl<'s> Keys<'s> {
     }
 
     /// No keys, with room for so many parts: a row that grows is copied, and both copies stand for a while.
-    pub fn with_room(alloc: Global, room: usize) -> Result<Keys<'s>, AllocError>
+    pub(crate) fn with_room(alloc: Global, room: usize) -> Result<Keys<'s>, AllocError>
         ensures { IfOk result (λ keys. IsEmpty (row_of keys)) }
     {
         let mut parts = Vec::with_capacity(alloc, room)?;
@@ -64,7 +64,7 @@ impl<'s> Keys<'s> {
     }
 
     /// What a part holds.
-    pub fn what(&self, part: u32) -> What
+    pub(crate) fn what(&self, part: u32) -> What
         ensures { result ≡ (row_of self.now).what part }
     {
         match self.parts.get(part as usize) {
@@ -74,7 +74,7 @@ impl<'s> Keys<'s> {
     }
 
     /// The table that has a part.
-    pub fn table(&self, part: u32) -> u32
+    pub(crate) fn table(&self, part: u32) -> u32
         ensures { result ≡ (row_of self.now).table part }
     {
         match self.parts.get(part as usize) {
@@ -100,7 +100,7 @@ impl<'s> Keys<'s> {
 
     /// Looks for a key.
     #[tactic(auto, using(crate::proofs::RowLemmas::turn_first))]
-    pub fn find(&self, table: u32, name: &[u8]) -> Seat
+    pub(crate) fn find(&self, table: u32, name: &[u8]) -> Seat
         ensures { (level : ℕ → ℕ) → IsFoundBy (row_of self.now) level → is_key ((row_of self.now).what 0) ≡ false
             → IsSeat (row_of self.now) level table name.now result }
     {
@@ -120,7 +120,7 @@ impl<'s> Keys<'s> {
     }
 
     /// Adds a part at the end, outside the search.
-    pub fn push(&mut self, table: u32, name: &[u8], what: What) -> Result<u32, AllocError>
+    pub(crate) fn push(&mut self, table: u32, name: &[u8], what: What) -> Result<u32, AllocError>
         ensures { (row_of self.old).named ≡ (row_of self.old).count
             → IfOk result (λ n. Pushes (row_of self.old) (row_of self.new) table name.now what n) }
     {
@@ -154,7 +154,7 @@ impl<'s> Keys<'s> {
     }
 
     /// Adds a key that is not there.
-    pub fn add(
+    pub(crate) fn add(
         &mut self,
         table: u32,
         name: &[u8],
@@ -172,7 +172,7 @@ impl<'s> Keys<'s> {
     }
 
     /// Sets what a part holds.
-    pub fn set(&mut self, part: u32, what: What)
+    pub(crate) fn set(&mut self, part: u32, what: What)
         ensures { part < (row_of self.old).count → Puts (row_of self.old) (row_of self.new) part what }
     {
         if let Some(part) = self.parts.get_mut(part as usize) {
@@ -181,7 +181,7 @@ impl<'s> Keys<'s> {
     }
 
     /// Adds a value's text.
-    pub fn push_value(&mut self, text: &'s str) -> Result<u32, AllocError>
+    pub(crate) fn push_value(&mut self, text: &'s str) -> Result<u32, AllocError>
         ensures row { IfOk result (λ _. row_of self.new ≡ with_value (row_of self.old) text.now) }
         ensures number { IfOk result (λ v. v ≡ length (row_of self.old).values) }
     {

@@ -12,8 +12,5 @@ mod walk;
 
 pub use data::{elements, inline, integer, string};
 pub use keys::Keys;
-pub use names::Names;
-pub use reading::{Definition, document, read};
-pub use row::{Part, Seat, What};
-pub use values::inline_table;
+pub use reading::read;
 pub use walk::Found;

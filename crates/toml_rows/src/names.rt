@@ -7,7 +7,7 @@ use std::marker::Model;
 
 /// Names, one behind the other. A name takes four bytes beside its own.
 #[derive(Drop)]
-pub struct Names {
+pub(crate) struct Names {
     /// Where each name ends.
     ends: Vec<u32>,
     bytes: Vec<u8>,
@@ -27,7 +27,7 @@ impl Model for Names {
 impl Names {
     /// No names.
     #[tactic(auto, using(crate::proofs::NameLemmas::names_none))]
-    pub fn new(alloc: Global) -> Names
+    pub(crate) fn new(alloc: Global) -> Names
         ensures { result ≡ [] }
     {
         Names {
@@ -38,7 +38,7 @@ impl Names {
 
     /// Adds a name. Fails only if memory runs out.
     #[tactic(auto, using(crate::proofs::NameLemmas::names_push, crate::proofs::NameLemmas::rise_push))]
-    pub fn push(&mut self, name: &[u8]) -> Result<(), AllocError>
+    pub(crate) fn push(&mut self, name: &[u8]) -> Result<(), AllocError>
         ensures { IfOk result (λ _. self.new ≡ self.old ++ name.now ∷ []) }
     {
         let end = self.bytes.len().saturating_add(name.len());
@@ -53,7 +53,7 @@ impl Names {
 
     /// Reads a name; an empty one past the end.
     #[tactic(auto, using(crate::proofs::NameLemmas::place, crate::proofs::NameLemmas::name_at, crate::proofs::NameLemmas::no_name))]
-    pub fn get(&self, index: usize) -> &[u8]
+    pub(crate) fn get(&self, index: usize) -> &[u8]
         ensures { result.now ≡ slice_index_or self.now index [] }
     {
         if index >= self.ends.len() {

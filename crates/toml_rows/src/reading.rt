@@ -15,14 +15,14 @@ use toml_parser::{ErrorKind, Key, ParseError, RECURSION_LIMIT, dotted_key};
 
 // What stands on a line: a pair with the text of its value, a header, or a header in double brackets.
 #[derive(Clone, Copy)]
-pub enum Definition<'s> {
+pub(crate) enum Definition<'s> {
     Pair(&'s str),
     Table,
     Element,
 }
 
 /// Reads the keys of a document.
-pub fn document(alloc: Global, s: &str) -> Result<Keys<'_>, ParseError>
+pub(crate) fn document(alloc: Global, s: &str) -> Result<Keys<'_>, ParseError>
     ensures { GivesTable recursion_limit result (spec.parse_document s.now) }
 {
     // A part takes at least two bytes of the text.

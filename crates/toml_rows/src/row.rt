@@ -1,11 +1,11 @@
 // A part of a key.
 
 /// No part.
-pub const NONE: u32 = 4_294_967_295;
+pub(crate) const NONE: u32 = 4_294_967_295;
 
 /// What a part holds.
 #[derive(Clone, Copy)]
-pub enum What {
+pub(crate) enum What {
     /// A value; its number.
     Value(u32),
     /// A table that headers passed through.
@@ -22,7 +22,7 @@ pub enum What {
 
 /// A part of a key.
 #[derive(Clone, Copy)]
-pub struct Part {
+pub(crate) struct Part {
     /// The table that has the key; of an element its array.
     pub table: u32,
     /// The parts that a search looks at next: after a bit 0, and after a bit 1.
@@ -33,7 +33,7 @@ pub struct Part {
 
 /// Where a key is, or the part and the side on which it would hang.
 #[derive(Clone, Copy)]
-pub enum Seat {
+pub(crate) enum Seat {
     Found(u32),
     Free(u32, bool),
 }

@@ -66,7 +66,7 @@ fn array(alloc: Global, s: &str, depth: usize) -> Result<&str, ParseError>
 
 /// Reads the rest of an inline table; `room` is for how many parts room is taken ahead.
 #[cycle(value)]
-pub fn inline_table(
+pub(crate) fn inline_table(
     alloc: Global,
     s: &str,
     depth: usize,

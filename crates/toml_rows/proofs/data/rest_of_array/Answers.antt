@@ -1,8 +1,7 @@
-use Rattle.std.proofs.Common.{◌≡◌, ◌==◌, ◌-◌, ◌<◌, ℕ, true, false, [], Some, None, length, drop, le_refl, refl, ap, ◌∙◌, rules, arith}
+use Rattle.std.proofs.Common.{◌≡◌, ◌==◌, ◌-◌, true, false, le_refl, ap, ◌∙◌, rules, arith}
 use Rattle.std.proofs.lemmas.Grind.{common_steps}
 use Rattle.toml_parser.specs.Lexical.{first, skip_blank}
-use Rattle.toml.specs.Data.{no_items}
-use Rattle.toml.specs.Parse.{val, items}
+use Rattle.toml.specs.Parse.{val}
 use Rattle.toml.proofs.Turns.{items_end, items_more, items_bad, items_bad_end}
 use Rattle.toml_rows.specs.Reading.{data_at}
 use Rattle.toml_rows.specs.Walking.{items_of, data_of_all}

@@ -2,14 +2,12 @@ use Rattle.std.proofs.Common.{◌≡◌, ◌==◌, ◌-◌, suc, length, false, 
 use Rattle.std.proofs.lemmas.Grind.{common_steps}
 use Rattle.toml_parser.specs.Lexical.{skip_blank}
 use Rattle.toml_parser.specs.Strings.{recursion_limit}
-use Rattle.toml_parser.specs.Reading.{key_view}
 use Rattle.toml.specs.Data.{no_items}
-use Rattle.toml.specs.Tables.{no_nodes, close, Document, Expression}
-use Rattle.toml.specs.Parse.{skip_bom, lines, line}
+use Rattle.toml.specs.Tables.{no_nodes, close, Document}
+use Rattle.toml.specs.Parse.{lines}
 use Rattle.toml.proofs.Turns.{document_none, document_some, lines_end, lines_more, lines_bad, lines_refused}
 use Rattle.toml_rows.specs.Rows.{row_of}
 use Rattle.toml_rows.specs.Tables.{at_root}
-use Rattle.toml_rows.specs.Documents.{definition_view}
 use Rattle.toml_rows.proofs.EnterLemmas.{match_err}
 use Rattle.toml_rows.proofs.LoopLemmas.{holds_empty}
 use Rattle.toml_rows.proofs.reading.document.Goals as goal

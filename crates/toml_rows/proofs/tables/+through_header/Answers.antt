@@ -1,4 +1,4 @@
-use Rattle.std.proofs.Common.{◌≡◌, ◌-◌, List, ℕ, ◌∷◌, [], ◌++◌, length, take, drop, sym, ap, ◌∙◌}
+use Rattle.std.proofs.Common.{◌≡◌, ◌-◌, ◌∷◌, [], ◌++◌, length, take, drop, sym, ap, ◌∙◌}
 use Rattle.toml_parser.specs.Reading.{path_view}
 use Rattle.toml.specs.Tables.{along_header}
 use Rattle.toml.proofs.Turns.{path_view-front, path_view-none}

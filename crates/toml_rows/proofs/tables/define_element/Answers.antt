@@ -1,4 +1,4 @@
-use Rattle.std.proofs.Common.{◌≡◌, ◌+◌, ℕ, refl, arith, rules, sym, ◌∙◌}
+use Rattle.std.proofs.Common.{◌≡◌, refl, arith, rules, sym, ◌∙◌}
 use Rattle.toml_rows.specs.Rows.{row_of, HasKey}
 use Rattle.toml_rows.proofs.ChangeLemmas.{new_key}
 use Rattle.toml_rows.proofs.DefineLemmas.{element_new, element_found, element_refused}

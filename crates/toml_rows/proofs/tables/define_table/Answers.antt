@@ -1,4 +1,4 @@
-use Rattle.std.proofs.Common.{◌≡◌, refl, arith, rules, sym, ◌∙◌}
+use Rattle.std.proofs.Common.{rules, sym, ◌∙◌}
 use Rattle.toml_rows.specs.Rows.{row_of}
 use Rattle.toml_rows.proofs.DefineLemmas.{table_new, table_found, table_refused}
 use Rattle.toml_rows.proofs.tables.define_table.Goals as goal

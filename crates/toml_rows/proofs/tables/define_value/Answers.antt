@@ -1,4 +1,4 @@
-use Rattle.std.proofs.Common.{◌≡◌, refl, arith, rules}
+use Rattle.std.proofs.Common.{rules}
 use Rattle.toml_rows.specs.Rows.{row_of}
 use Rattle.toml_rows.specs.Reading.{data_at}
 use Rattle.toml_rows.proofs.DefineLemmas.{value_holds, value_refused, value_put}

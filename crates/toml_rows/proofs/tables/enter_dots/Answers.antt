@@ -1,4 +1,4 @@
-use Rattle.std.proofs.Common.{◌≡◌, refl, arith, rules}
+use Rattle.std.proofs.Common.{rules}
 use Rattle.toml_rows.specs.Rows.{row_of}
 use Rattle.toml_rows.proofs.EnterLemmas.{match_err, dots_found, dots_stopped, dots_new}
 use Rattle.toml_rows.proofs.tables.enter_dots.Goals as goal

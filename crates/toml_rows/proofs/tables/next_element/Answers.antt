@@ -1,4 +1,4 @@
-use Rattle.std.proofs.Common.{◌≡◌, ◌<◌, arith}
+use Rattle.std.proofs.Common.{◌<◌, arith}
 use Rattle.toml_rows.specs.Rows.{row_of}
 use Rattle.toml_rows.proofs.DefineLemmas.{row_next}
 use Rattle.toml_rows.proofs.tables.next_element.Goals as goal

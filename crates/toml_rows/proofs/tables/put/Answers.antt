@@ -1,4 +1,4 @@
-use Rattle.std.proofs.Common.{◌≡◌, ◌++◌, string_bytes, ap, sym, ◌∙◌}
+use Rattle.std.proofs.Common.{◌++◌, string_bytes, ap}
 use Rattle.toml_parser.specs.Reading.{path_view}
 use Rattle.toml_rows.specs.Rows.{row_of}
 use Rattle.toml_rows.specs.Reading.{data_at}

@@ -1,11 +1,11 @@
-use Rattle.std.proofs.Common.{◌≡◌, ◌==◌, ◌-◌, ◌<◌, ◌||◌, ℕ, true, false, [], Some, None, length, drop, le_refl, refl, ap, ◌∙◌, rules, arith}
+use Rattle.std.proofs.Common.{◌≡◌, ◌==◌, ◌-◌, ◌<◌, ◌||◌, true, false, [], Some, None, length, drop, le_refl, refl, ap, ◌∙◌, rules, arith}
 use Rattle.std.proofs.lemmas.Grind.{common_steps}
 use Rattle.toml_parser.specs.Lexical.{first, skip_blank}
 use Rattle.toml_parser.specs.Strings.{Key}
 use Rattle.toml_parser.specs.Reading.{key_view}
 use Rattle.toml_parser.proofs.StringsLemmas.{gives_err}
-use Rattle.toml.specs.Data.{Data, no_items, array, table, push_item}
-use Rattle.toml.specs.Tables.{Nodes, no_nodes, close, put}
+use Rattle.toml.specs.Data.{no_items, array, table, push_item}
+use Rattle.toml.specs.Tables.{no_nodes, close, put}
 use Rattle.toml.specs.Parse.{val, items, members, key_equals}
 use Rattle.toml.proofs.Turns.{val_atom, val_open_array, val_open_table, val_deep, keyval_ok, keyval_no_key, keyval_no_value, items_end, items_more, items_bad, items_bad_end, members_end, members_more, members_bad, members_bad_put, members_bad_end}
 use Rattle.toml_rows.specs.Rows.{row_of}

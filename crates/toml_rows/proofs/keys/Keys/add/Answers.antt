@@ -1,6 +1,5 @@
-use Rattle.std.proofs.Common.{◌≡◌, ◌<◌, true, rules, arith}
-use Rattle.std.proofs.lemmas.Grind.{common_steps}
-use Rattle.toml_rows.specs.Rows.{is_key, row_of, Adds}
+use Rattle.std.proofs.Common.{◌<◌, rules, arith}
+use Rattle.toml_rows.specs.Rows.{row_of}
 use Rattle.toml_rows.proofs.RowLemmas.{row_add}
 use Rattle.toml_rows.proofs.keys.Keys.add.Goals as goal
 

@@ -1,4 +1,4 @@
-use Rattle.std.proofs.Common.{◌≡◌, ◌≤◌, List, ℕ, ap, subst, ◌∙◌, sym, arith}
+use Rattle.std.proofs.Common.{◌≤◌, List, ℕ, ap, subst, ◌∙◌, sym, arith}
 use Rattle.std.proofs.lemmas.Grind.{common_steps}
 use Rattle.toml_rows.specs.Rows.{row_of}
 use Rattle.toml_rows.specs.Walking.{items_of, tables_of, IsLeft}

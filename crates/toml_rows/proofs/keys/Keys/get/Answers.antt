@@ -1,4 +1,3 @@
-use Rattle.std.proofs.Common.{◌≡◌}
 use Rattle.toml_rows.specs.Rows.{row_of}
 use Rattle.toml_rows.proofs.WalkLemmas.{get_found, get_free}
 use Rattle.toml_rows.proofs.keys.Keys.get.Goals as goal

@@ -1,4 +1,4 @@
-use Rattle.std.proofs.Common.{◌≡◌, Some, None, refl, sym, ap, arith}
+use Rattle.std.proofs.Common.{Some, None, refl, arith}
 use Rattle.toml_rows.specs.Rows.{row_of}
 use Rattle.toml_rows.specs.Walking.{knows, IsBefore, IsUnknown, IsLeast}
 use Rattle.toml_rows.proofs.WalkLemmas.{least_take, least_take_first, least_keep, least_skip}

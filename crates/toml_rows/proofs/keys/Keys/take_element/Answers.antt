@@ -1,4 +1,4 @@
-use Rattle.std.proofs.Common.{◌≡◌, ◌++◌, ◌∷◌, [], ◌∙◌, rules, arith}
+use Rattle.std.proofs.Common.{◌≡◌, ◌++◌, ◌∷◌, [], rules, arith}
 use Rattle.toml_rows.specs.Search.{none}
 use Rattle.toml_rows.specs.Rows.{row_of}
 use Rattle.toml_rows.proofs.WalkLemmas.{left_none, left_more}
