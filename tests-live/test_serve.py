@@ -3,6 +3,7 @@
 journal then has what was acknowledged: requests one after another, slow ones, half ones, resets, 64 connections at once, 1,000
 in turn, a stop by SIGTERM, and fifty kills by signal 9 under load."""
 import itertools
+import json
 import random
 import threading
 
@@ -128,6 +129,25 @@ class Serve(live.Case):
         with Server(self.program, self.folder / "served", "--workers", "64", "--connections", "1") as server:
             self.check("64 workers serve 64 connections side by side", [[404, 404]] * 64, at_once(64, one))
             self.check("the status once each served its connections", 0, server.process.wait(LIMIT))
+
+    def test_versions_of_a_key(self):
+        """The reply that shows the versions of a key: each version that was put, the newest first, below and above the 32 from which on it is printed
+        in pieces, with tags that are small and that are as great as can be."""
+        put, marks = [], "\x01\"k\u00e9\U00010000"
+        with Server(self.program, self.folder / "served") as server, server.client() as client:
+            client.ask(request("PUT", "/buckets/long"))
+            self.check("versions are kept", 200, client.ask(request("PUT", "/buckets/long/versioning", '{"Status":"Enabled"}'))[0])
+            for place in range(400):
+                length = 128 if place % 50 == 49 else place % 7 + 1
+                tags = {chr(97 + it) + marks[it % 5] * (length - 1): marks[(it + place) % 5] * min(256, length * 2) for it in range(place % 11)}
+                body = json.dumps({"size": place, "tags": tags})
+                self.check(f"put {place}", 201, client.ask(request("PUT", "/buckets/long/objects/k", body))[0])
+                put.insert(0, (place, tags))
+                if len(put) in (1, 2, 31, 32, 33, 34, 100, 400):
+                    shown = json.loads(client.ask(request("GET", "/buckets/long/objects/k"))[1])["versions"]
+                    self.check(f"{len(put)} versions", put, [(it["size"], it["tags"]) for it in shown])
+                    self.check(f"{len(put)} numbers", [str(it) for it in range(len(put), 0, -1)], [it["version"] for it in shown])
+                    self.check(f"{len(put)} moments", [None] + [it["created"] for it in shown[:-1]], [it.get("noncurrent_since") for it in shown])
 
     def test_killed_under_load(self):
         """Kills the server by signal 9 under load, and starts it again on the same folder."""

@@ -1,4 +1,5 @@
 mod Examples
+pub mod PieceLemmas
 pub mod PrintLemmas
 pub mod RefusalLemmas
 pub mod SaidLemmas

@@ -23,7 +23,7 @@ kept_of r = record {
 abbrev pub sink_faults : MemoryReplies → ℕ
 sink_faults r = r.faults
 
--- the numbers of the calls of `say`, `say_bad` and `text` that are to fail, counted together from 1
+-- the numbers of the calls of `say`, `say_part`, `told`, `say_bad` and `text` that are to fail, counted together from 1
 abbrev pub sink_failing : MemoryReplies → List ℕ
 sink_failing r = r.failing.items
 

@@ -8,6 +8,10 @@ abbrev pub PutsOut : {E : Type 0} → Option (List ℕ) → Option (List ℕ) �
 PutsOut old new bytes (Ok x) = Appends old new bytes
 PutsOut old new bytes (Err e) = (n : ℕ) × Appends old new (take n bytes)
 
+-- these bytes were put out last
+abbrev pub EndsWith : Option (List ℕ) → List ℕ → Type 0
+EndsWith all bytes = (before : Option (List ℕ)) × Appends before all bytes
+
 -- the line was noted, and no fault was counted; or it was lost but for a front of it, and a fault was
 abbrev pub NotesLine : Option (List ℕ) → Option (List ℕ) → List ℕ → ℕ → ℕ → Type 0
 NotesLine old new line before after =

@@ -1,15 +1,20 @@
 // One message of a session and its answer.
 ghost use Rattle.std.specs.Prelude.{◌≡◌, ◌≤◌, ◌<◌, ◌+◌, ℕ, List, Option, length};
-ghost use Rattle.std.specs.Prelude.{true, false, OnOk, IfErr, IfSome, IsErrOf, IsOk, Ok, Err};
-ghost use Rattle.std.specs.Io.KnownBytes.{prepend_known};
+ghost use Rattle.std.specs.Prelude.{true, false, [], ◌∷◌, OnOk, OnErr, IfErr, IfSome, IsErrOf, IsOk, Ok, Err};
+ghost use Rattle.std.specs.Io.KnownBytes.{Appends, prepend_known};
+ghost use Rattle.office_base.specs.Faults.{HasCause};
 ghost use Rattle.desk_core.specs.declared.fault.DeskFault.{DeskFault};
 ghost use Rattle.http_wire.specs.Held.{take_limit};
 ghost use Rattle.http_wire.specs.Sources.{OnlyReads};
+ghost use Rattle.office_types.specs.declared.reply.Reply.TheVariants.{StackShown};
+ghost use Rattle.http_text.specs.Pieces.{pieces_left};
+ghost use Rattle.http_text.specs.Replies.{answer_text};
 ghost use Rattle.http_text.specs.Shorts.{IsShort};
 ghost use Rattle.http_asks.specs.Counts.{Given};
 ghost use Rattle.http_asks.specs.Faults.{refused_of};
 ghost use Rattle.http_asks.specs.Tells.{TellsHeard, OnFramed};
 ghost use Rattle.http_front.specs.Counts.{IsUnder, IsUnspent, IsHeldBack, IsTakenAhead, stream_ends, total_of};
+ghost use Rattle.http_front.specs.Puts.{PutsOut};
 ghost use Rattle.http_front.specs.Saying.{OnlySays, Says, SaysFront};
 ghost use Rattle.http_front.specs.Session.{sides, Session};
 ghost use Rattle.http_front.specs.Talk.{SaysNoMemory, IsSaid, IsRefusedBy, AnswersOne, Talked, Went};
@@ -23,10 +28,15 @@ use crate::teller::Teller;
 use crate::texts::no_memory;
 use desk_core::{Acked, DeskFault};
 use http_asks::{Heard, Reader};
-use http_text::is_short;
+use http_text::{PIECE_ROOM, StackPieces, is_short};
 use http_wire::{MessageStop, Source};
-use office_types::Ask;
+use office_base::{Failed, Key};
+use office_types::{Ask, Reply};
+use stacks::Stack;
 use std::alloc::Global;
+
+/// A reply that shows at most so many versions of a key is printed whole.
+const WHOLE: usize = 32;
 
 /// How a session ended.
 #[derive(Clone, Copy, Debug, PartialEq, Eq)]
@@ -87,7 +97,7 @@ fn say_short<W: Replies>(out: &mut W, room: &mut [u8], acked: &Acked) -> Result<
 
 // Says an answer that is printed into memory of its own. If there is no memory, this is said instead.
 #[tactic(auto, using(crate::proofs::SaidLemmas::said_instead))]
-fn say_long<W: Replies>(alloc: Global, out: &mut W, acked: &Acked) -> Result<(), SessionEnd>
+fn say_whole<W: Replies>(alloc: Global, out: &mut W, acked: &Acked) -> Result<(), SessionEnd>
     requires long { ¬ (IsShort acked.now.reply) }
     ensures said { IsSaid W.Replies out.old out.new (Ok acked.now) result }
     ensures only_says { OnlySays W.Replies out.old out.new (IsErrOf result SessionEnd.WriteFault) }
@@ -99,6 +109,68 @@ fn say_long<W: Replies>(alloc: Global, out: &mut W, acked: &Acked) -> Result<(),
         },
         Err(_) => Err(say_no_memory(out)),
     }
+}
+
+// Says the pieces of an answer, and tells it.
+fn say_pieces<W: Replies>(
+    out: &mut W,
+    acked: &Acked,
+    pieces: &mut StackPieces<'_>,
+    room: &mut [u8],
+) -> Result<(), Failed>
+    requires room { 131_072 ≤ length room.old }
+    requires text { pieces_left pieces.old ≡ answer_text acked.now.reply }
+    ensures said { PutsOut (W.said out.old) (W.said out.new) (answer_text acked.now.reply) result }
+    ensures moments { OnOk result (Appends (W.moments out.old) (W.moments out.new) (acked.now.disk_moment ∷ [])) }
+    ensures untold { OnErr result (W.moments out.new ≡ W.moments out.old) }
+    ensures texts { W.texts out.new ≡ W.texts out.old }
+    ensures noted { W.noted out.new ≡ W.noted out.old }
+    ensures cause { HasCause (W.faults out.old) (W.faults out.new) result }
+    ensures quiet { OnOk result (W.faults out.new ≡ W.faults out.old) }
+{
+    'pieces: while let Some(size) = pieces.next(room) {
+        out.say_part(&room[..size])?;
+    }
+    out.told(acked)
+}
+
+// Says the versions of a key in pieces. If there is no memory for a piece, this is said instead.
+#[tactic(auto, using(crate::proofs::SaidLemmas::said_instead))]
+fn say_stack<W: Replies>(
+    alloc: Global,
+    out: &mut W,
+    acked: &Acked,
+    key: &Key,
+    stack: &Stack,
+) -> Result<(), SessionEnd>
+    requires shown { acked.now.reply ≡ Ok (StackShown key.now stack.now) }
+    ensures said { IsSaid W.Replies out.old out.new (Ok acked.now) result }
+    ensures only_says { OnlySays W.Replies out.old out.new (IsErrOf result SessionEnd.WriteFault) }
+{
+    let Some(mut pieces) = StackPieces::new(key, stack) else {
+        return Err(say_no_memory(out));
+    };
+    let Ok(mut room) = vec![in alloc; 0u8; PIECE_ROOM] else {
+        return Err(say_no_memory(out));
+    };
+    match say_pieces(out, acked, &mut pieces, room.as_mut_slice()) {
+        Ok(()) => Ok(()),
+        Err(_) => Err(SessionEnd::WriteFault),
+    }
+}
+
+// Says an answer that is not short: the versions of a key in pieces if there are many, and anything else at once.
+fn say_long<W: Replies>(alloc: Global, out: &mut W, acked: &Acked) -> Result<(), SessionEnd>
+    requires long { ¬ (IsShort acked.now.reply) }
+    ensures said { IsSaid W.Replies out.old out.new (Ok acked.now) result }
+    ensures only_says { OnlySays W.Replies out.old out.new (IsErrOf result SessionEnd.WriteFault) }
+{
+    if let Ok(Reply::StackShown { key, stack }) = acked.reply() {
+        if stack.versions().len() > WHOLE {
+            return say_stack(alloc, out, acked, key, stack);
+        }
+    }
+    say_whole(alloc, out, acked)
 }
 
 fn say_reply<W: Replies>(

@@ -4,7 +4,7 @@ ghost use Rattle.std.specs.Bool.{Decides};
 ghost use Rattle.std.specs.List.{Contains};
 ghost use Rattle.office_base.specs.Faults.{Rose};
 ghost use Rattle.http_text.specs.Replies.{answer_text};
-ghost use Rattle.http_front.specs.Puts.{NotesLine};
+ghost use Rattle.http_front.specs.Puts.{EndsWith, NotesLine};
 ghost use Rattle.http_front.specs.Texts.{bad_text_of};
 
 use crate::bad::Bad;
@@ -29,9 +29,9 @@ pub struct MemoryReplies {
 impl MemoryReplies {
     ghost use Rattle.http_front.specs.MemorySinks.{sink_failing, sink_calls};
 
-    /// Makes replies in which nothing was said. The calls of `say`, `say_bad` and `text` whose numbers are in
-    /// `failing`, counted together from 1, fail, and nothing of them is kept; so does a call for which memory runs
-    /// out.
+    /// Makes replies in which nothing was said. The calls of `say`, `say_part`, `told`, `say_bad` and `text` whose
+    /// numbers are in `failing`, counted together from 1, fail, and nothing of them is kept; so does a call for which
+    /// memory runs out.
     pub fn new(alloc: Global, failing: Vec<u64>) -> Self
         ensures said { ⟦<MemoryReplies as Replies>⟧.said result ≡ Some [] }
         ensures moments { ⟦<MemoryReplies as Replies>⟧.moments result ≡ Some [] }
@@ -124,6 +124,32 @@ impl Replies for MemoryReplies {
             }
             Err(_) => Err(self.fail()),
         }
+    }
+
+    fn say_part(&mut self, bytes: &[u8]) -> Result<(), Failed>
+        ensures call { IsSinkCall self.old self.new
+            (record (kept_of self.old) { said = (kept_of self.old).said ++ bytes.now }) result }
+    {
+        if self.fails() {
+            return Err(self.fail());
+        }
+        match self.replies.extend_from_slice(bytes) {
+            Ok(()) => Ok(()),
+            Err(_) => Err(self.fail()),
+        }
+    }
+
+    fn told(&mut self, acked: &Acked) -> Result<(), Failed>
+        requires { EndsWith (⟦<MemoryReplies as Replies>⟧.said self.old) (answer_text acked.now.reply) }
+        ensures call { IsSinkCall self.old self.new (record (kept_of self.old) {
+          moments = (kept_of self.old).moments ++ acked.now.disk_moment ∷ [];
+        }) result }
+    {
+        if self.fails() || self.answers.reserve(1).is_err() {
+            return Err(self.fail());
+        }
+        self.answers.push_reserved(Snapshot::of(acked));
+        Ok(())
     }
 
     fn say_bad(&mut self, bad: &Bad, bytes: &[u8]) -> Result<(), Failed>

@@ -3,7 +3,7 @@ ghost use Rattle.std.specs.Prelude.{◌≡◌, ◌≤◌, ℕ, List, [], ◌∷�
 ghost use Rattle.std.specs.Io.KnownBytes.{Appends};
 ghost use Rattle.office_base.specs.Faults.{HasCause};
 ghost use Rattle.http_text.specs.Replies.{answer_text};
-ghost use Rattle.http_front.specs.Puts.{PutsOut, NotesLine};
+ghost use Rattle.http_front.specs.Puts.{PutsOut, EndsWith, NotesLine};
 ghost use Rattle.http_front.specs.Texts.{bad_text_of};
 
 use crate::bad::Bad;
@@ -37,6 +37,34 @@ pub trait Replies {
         ensures said { PutsOut (said self.old) (said self.new) bytes.now result }
         ensures moments { OnOk result (Appends (moments self.old) (moments self.new) (acked.now.disk_moment ∷ [])) }
         ensures unsaid { OnErr result (moments self.new ≡ moments self.old) }
+        ensures texts { texts self.new ≡ texts self.old }
+        ensures noted { noted self.new ≡ noted self.old }
+        ensures cause { HasCause (faults self.old) (faults self.new) result }
+        ensures quiet { OnOk result (faults self.new ≡ faults self.old) };
+
+    /// Says a part of the reply of an answer, which is told after its last part.
+    ///
+    /// # Errors
+    ///
+    /// `Failed`: a front of the bytes may have gone out, and the count of faults rose.
+    fn say_part(&mut self, bytes: &[u8]) -> Result<(), Failed>
+        ensures said { PutsOut (said self.old) (said self.new) bytes.now result }
+        ensures moments { moments self.new ≡ moments self.old }
+        ensures texts { texts self.new ≡ texts self.old }
+        ensures noted { noted self.new ≡ noted self.old }
+        ensures cause { HasCause (faults self.old) (faults self.new) result }
+        ensures quiet { OnOk result (faults self.new ≡ faults self.old) };
+
+    /// Tells the answer whose reply was said in parts, as the last bytes that were said.
+    ///
+    /// # Errors
+    ///
+    /// `Failed`: the answer was not told, and the count of faults rose.
+    fn told(&mut self, acked: &Acked) -> Result<(), Failed>
+        requires { EndsWith (said self.old) (answer_text acked.now.reply) }
+        ensures moments { OnOk result (Appends (moments self.old) (moments self.new) (acked.now.disk_moment ∷ [])) }
+        ensures untold { OnErr result (moments self.new ≡ moments self.old) }
+        ensures said { said self.new ≡ said self.old }
         ensures texts { texts self.new ≡ texts self.old }
         ensures noted { noted self.new ≡ noted self.old }
         ensures cause { HasCause (faults self.old) (faults self.new) result }

@@ -5,7 +5,7 @@ ghost use Rattle.std.specs.Io.{WritesAtMost};
 ghost use Rattle.std.specs.Result.{IsErr};
 ghost use Rattle.office_base.specs.Faults.{HasCause, Rose};
 ghost use Rattle.http_text.specs.Replies.{answer_text};
-ghost use Rattle.http_front.specs.Puts.{PutsOut, NotesLine};
+ghost use Rattle.http_front.specs.Puts.{PutsOut, EndsWith, NotesLine};
 ghost use Rattle.http_front.specs.Saying.{OnlySays};
 ghost use Rattle.http_front.specs.Texts.{bad_text_of};
 ghost use Rattle.http_front.specs.Writers.{notes_of, out_of};
@@ -122,6 +122,32 @@ impl<W: Write + Drop, N: Write + Drop> Replies for WriterReplies<W, N> {
     {
         let _ = acked;
         self.put(bytes)
+    }
+
+    fn say_part(&mut self, bytes: &[u8]) -> Result<(), Failed>
+        ensures written { PutsOut (W.contents (out_of self.old)) (W.contents (out_of self.new)) bytes.now result }
+        ensures said { PutsOut (⟦<WriterReplies<W, N> as Replies>⟧.said self.old)
+            (⟦<WriterReplies<W, N> as Replies>⟧.said self.new) bytes.now result }
+        ensures moments { ⟦<WriterReplies<W, N> as Replies>⟧.moments self.new
+            ≡ ⟦<WriterReplies<W, N> as Replies>⟧.moments self.old }
+        ensures only_says { OnlySays ⟦<WriterReplies<W, N> as Replies>⟧ self.old self.new (IsErr result) }
+    {
+        self.put(bytes)
+    }
+
+    fn told(&mut self, acked: &Acked) -> Result<(), Failed>
+        requires { EndsWith (⟦<WriterReplies<W, N> as Replies>⟧.said self.old) (answer_text acked.now.reply) }
+        ensures unwritten { out_of self.new ≡ out_of self.old }
+        ensures said { ⟦<WriterReplies<W, N> as Replies>⟧.said self.new
+            ≡ ⟦<WriterReplies<W, N> as Replies>⟧.said self.old }
+        ensures moments { OnOk result (Appends (⟦<WriterReplies<W, N> as Replies>⟧.moments self.old)
+            (⟦<WriterReplies<W, N> as Replies>⟧.moments self.new) (acked.now.disk_moment ∷ [])) }
+        ensures untold { OnErr result (⟦<WriterReplies<W, N> as Replies>⟧.moments self.new
+            ≡ ⟦<WriterReplies<W, N> as Replies>⟧.moments self.old) }
+        ensures only_says { OnlySays ⟦<WriterReplies<W, N> as Replies>⟧ self.old self.new (IsErr result) }
+    {
+        let _ = acked;
+        Ok(())
     }
 
     fn say_bad(&mut self, bad: &Bad, bytes: &[u8]) -> Result<(), Failed>

@@ -40,7 +40,7 @@ decimal_small n fits = length-decimal-le 20 n (omega arith) (omega (arith, fits)
 pub wide_small : (n : ℕ) → n < 2 ^ 128 → length (decimal n) ≤ 39
 wide_small n fits = length-decimal-le_wide 39 n (omega arith) (omega (arith, fits)) (omega (arith, fits))
 
-moment_length : (m : ℕ) → length (moment_text m) ≡ 24
+pub moment_length : (m : ℕ) → length (moment_text m) ≡ 24
 unfolding moment_text
 moment_length m = refl
 
@@ -48,7 +48,7 @@ month_length : (m : ℕ) → length (month_text m) ≡ 7
 unfolding month_text
 month_length m = refl
 
-class_small : (c : Class) → length (class_name c) ≤ 12
+pub class_small : (c : Class) → length (class_name c) ≤ 12
 class_small Standard = omega arith
 class_small StandardIa = omega arith
 class_small OnezoneIa = omega arith
@@ -89,10 +89,10 @@ pub number_part_small : (before text : List ℕ) → length before ≤ 20 → le
 number_part_small before text short small = omega (arith, length-append before text, short, small)
 
 -- a text with what stands before it, and the rest
-text_then : (before text rest : List ℕ) → length ((before ++ quoted text) ++ rest) ≤ length before + (6 * length text + 2) + length rest
+pub text_then : (before text rest : List ℕ) → length ((before ++ quoted text) ++ rest) ≤ length before + (6 * length text + 2) + length rest
 text_then before text rest = omega (arith, length-append (before ++ quoted text) rest, length-append before (quoted text), quoted_small text)
 
-number_then : (before digits rest : List ℕ) → length ((before ++ digits) ++ rest) ≡ length before + length digits + length rest
+pub number_then : (before digits rest : List ℕ) → length ((before ++ digits) ++ rest) ≡ length before + length digits + length rest
 number_then before digits rest = omega (arith, length-append (before ++ digits) rest, length-append before digits)
 
 -- ---- objects with one member

@@ -5,6 +5,7 @@ mod body;
 mod chosen;
 mod members;
 mod meters;
+mod pieces;
 mod price_body;
 mod printing;
 mod refusals;
@@ -13,6 +14,7 @@ mod stack_body;
 mod tag_body;
 mod upload_body;
 
+pub use pieces::{PIECE_ROOM, StackPieces};
 pub use printing::{is_short, print_answer, put_answer, put_head};
 pub use refusals::put_error;
 pub use room::{put, put_number, put_quoted, room_len};

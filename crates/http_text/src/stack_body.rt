@@ -1,5 +1,5 @@
 // The versions of a key, as JSON.
-ghost use Rattle.std.specs.Prelude.{◌≡◌, ◌++◌, true, codes, map, Some, Ok};
+ghost use Rattle.std.specs.Prelude.{◌≡◌, ◌≤◌, ◌++◌, true, codes, length, map, Some, Ok};
 ghost use Rattle.serde_json.specs.View.{items_of};
 ghost use Rattle.serde_json.specs.Written.{items_text};
 ghost use Rattle.stacks.specs.declared.version.Kind.{Kind};
@@ -40,7 +40,8 @@ fn put_object(
     since: Option<Moment>,
 ) -> usize
     requires { version.now.kind ≡ Object size class tags.now entered }
-    ensures { Puts room.old at room.new result (version_text since version.now) }
+    ensures puts { Puts room.old at room.new result (version_text since version.now) }
+    ensures small { length (version_text since version.now) ≤ 94_000 }
 {
     let at = put_text(room, at, b"{\"class\":", class.name());
     let at = put_moment(room, at, b",\"created\":", version.created.ms());
@@ -54,9 +55,11 @@ fn put_object(
     put(room, at, b"}")
 }
 
+#[tactic(auto, using(crate::proofs::PieceLemmas::marker_small))]
 fn put_delete_marker(room: &mut [u8], at: usize, version: &Version, since: Option<Moment>) -> usize
     requires { version.now.kind ≡ Kind.Marker }
-    ensures { Puts room.old at room.new result (version_text since version.now) }
+    ensures puts { Puts room.old at room.new result (version_text since version.now) }
+    ensures small { length (version_text since version.now) ≤ 94_000 }
 {
     let at = put_moment(room, at, b"{\"created\":", version.created.ms());
     let at = put(room, at, b",\"kind\":\"marker\"");
@@ -65,8 +68,15 @@ fn put_delete_marker(room: &mut [u8], at: usize, version: &Version, since: Optio
     put(room, at, b"}")
 }
 
-fn put_version(room: &mut [u8], at: usize, version: &Version, since: Option<Moment>) -> usize
-    ensures { Puts room.old at room.new result (version_text since version.now) }
+/// Writes a version, with the moment since which it has been noncurrent.
+pub(crate) fn put_version(
+    room: &mut [u8],
+    at: usize,
+    version: &Version,
+    since: Option<Moment>,
+) -> usize
+    ensures puts { Puts room.old at room.new result (version_text since version.now) }
+    ensures small { length (version_text since version.now) ≤ 94_000 }
 {
     match &version.kind {
         Kind::Object {
@@ -79,8 +89,10 @@ fn put_version(room: &mut [u8], at: usize, version: &Version, since: Option<Mome
     }
 }
 
-fn put_next(room: &mut [u8], at: usize, version: &Version) -> usize
-    ensures { Puts room.old at room.new result (codes "," ++ version_text (Some version.now.ceased) version.now) }
+/// Writes a noncurrent version after a comma.
+pub(crate) fn put_next(room: &mut [u8], at: usize, version: &Version) -> usize
+    ensures puts { Puts room.old at room.new result (codes "," ++ version_text (Some version.now.ceased) version.now) }
+    ensures small { length (codes "," ++ version_text (Some version.now.ceased) version.now) ≤ 94_100 }
 {
     let at = put(room, at, b",");
     put_version(room, at, version, Some(version.ceased))

@@ -1,5 +1,5 @@
 // Tags, as JSON.
-ghost use Rattle.std.specs.Prelude.{◌≡◌, true};
+ghost use Rattle.std.specs.Prelude.{◌≡◌, ◌≤◌, length, true};
 ghost use Rattle.serde_json.specs.Written.{comma_if};
 ghost use Rattle.office_base.specs.Tags.{keys_rise, tag_of, tags_of};
 ghost use Rattle.http_text.specs.Bodies.{tags_text};
@@ -40,8 +40,10 @@ fn put_pairs(room: &mut [u8], at: usize, pairs: &[(String, String)]) -> usize
 }
 
 /// Writes tags as an object with a member for each.
+#[tactic(auto, using(crate::proofs::PieceLemmas::tags_small))]
 pub(crate) fn put_tags(room: &mut [u8], at: usize, tags: &Tags) -> usize
-    ensures { Puts room.old at room.new result (tags_text tags.now) }
+    ensures puts { Puts room.old at room.new result (tags_text tags.now) }
+    ensures small { length (tags_text tags.now) ≤ 93_100 }
 {
     put_pairs(room, at, tags.pairs())
 }

@@ -128,6 +128,16 @@ impl<'a> Replies for FlagReplies<'a> {
         said
     }
 
+    fn say_part(&mut self, bytes: &[u8]) -> Result<(), Failed> {
+        self.inner.say_part(bytes)
+    }
+
+    fn told(&mut self, acked: &Acked) -> Result<(), Failed> {
+        let told = self.inner.told(acked);
+        self.answered.store(1, Ordering::SeqCst);
+        told
+    }
+
     fn say_bad(&mut self, bad: &Bad, bytes: &[u8]) -> Result<(), Failed> {
         self.inner.say_bad(bad, bytes)
     }

@@ -4,7 +4,7 @@ ghost use Rattle.office_types.specs.Fits.{AnswerFits, RefusalFits, ReplyFits};
 use crate::given::{id, key, moment, month, name, size, tags, text};
 use class_rules::Class;
 use due_core::{ActionKind, Target};
-use http_text::{is_short, print_answer, put_answer};
+use http_text::{PIECE_ROOM, StackPieces, is_short, print_answer, put_answer};
 use office_base::{Items, Key, Text, VersionId};
 use office_types::{ClassMeters, LineKind, Price, Refusal, Reply, ReportLine, What};
 use rules_json::read_rules;
@@ -543,6 +543,17 @@ fn the_versions_of_a_key(rt: HostRuntime) {
         stack: two_versions(&rt, rt.alloc()),
     });
     is_kept(&rt, rt.alloc(), &shown, JSON, VERSIONS);
+}
+
+#[test]
+fn two_versions_are_one_piece(rt: HostRuntime) {
+    let (key, stack) = (key(&rt, rt.alloc(), b"a"), two_versions(&rt, rt.alloc()));
+    let wanted = reply_of(&rt, rt.alloc(), OK, JSON, VERSIONS);
+    let mut room = vec![in rt.alloc(); 0u8; PIECE_ROOM].expect(&rt, "memory");
+    let mut pieces = StackPieces::new(&key, &stack).expect(&rt, "pieces");
+    let size = pieces.next(room.as_mut_slice()).expect(&rt, "a piece");
+    assert_eq!(rt; &room[..size], wanted.as_bytes());
+    assert_eq!(rt; pieces.next(room.as_mut_slice()), None);
 }
 
 // Parts 1 and 3; part 3 was put first.

@@ -7,8 +7,8 @@ use Rattle.http_text.proofs.LongTexts.{marker_is}
 use Rattle.http_text.proofs.RoomLemmas.{puts_then, puts_same}
 use Rattle.http_text.proofs.stack_body.put_delete_marker.Goals as goal
 
-pub returns : goal.returns
-returns c =
+pub returns-clause-puts : goal.returns-clause-puts
+returns-clause-puts c =
     let v = c.args.version.now in
     puts_same _ _ (marker_is c.args.since v c.requires)
     (puts_then (codes "{\"created\":" ++ quoted (moment_text v.created)) _ (rw c.ms.ensures.same at c.put_moment-at.ensures)

@@ -12,7 +12,7 @@ loop-version-preserved c =
     let versions = c.args.versions.now in
     let i = c.loop-version.version-index in
     going_on _ _ _ (items_text true (items_of (map noncurrent_version (drop (i + 1) versions)))) c.loop-version.invariant (version_left versions i c.version-item.result c.loop-version-test.true)
-    (rw c.version-item.is at c.put_next-at.ensures)
+    (rw c.version-item.is at c.put_next-at.ensures.puts)
 
 pub returns : goal.returns
 returns c =

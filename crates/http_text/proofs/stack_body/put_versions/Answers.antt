@@ -11,4 +11,4 @@ pub returns-in-len1-up : goal.returns-in-len1-up
 returns-in-len1-up c =
     puts_same _ _ (versions_by_place c.args.versions.now c.current-item.result c.current-item.result c.in-len1-up.len_at_least c.current-item.is)
     (puts_then (codes "[") _ c.put-at.ensures
-    (puts_then (version_text None c.current-item.result) _ c.put_version-at.ensures c.put_noncurrent.ensures))
+    (puts_then (version_text None c.current-item.result) _ c.put_version-at.ensures.puts c.put_noncurrent.ensures))

@@ -18,5 +18,5 @@ returns c =
     (puts_then (parts_text u.parts) _ (rw c.parts.ensures.same at c.put_parts-at.ensures)
     (puts_then (codes ",\"started\":" ++ quoted (moment_text u.started)) _ (rw (c.ms.ensures.same, c.started.ensures) at c.put_moment-at.ensures)
     (puts_then (codes ",\"tags\":") _ c.put-at-3.ensures
-    (puts_then (tags_text u.tags) _ (rw c.tags.ensures at c.put_tags-at.ensures)
+    (puts_then (tags_text u.tags) _ (rw c.tags.ensures at c.put_tags-at.ensures.puts)
     (puts_then (codes ",\"upload\":" ++ decimal c.args.number) (codes "}") c.put_whole-at.ensures.puts c.put.ensures)))))))))
