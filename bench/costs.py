@@ -44,7 +44,7 @@ MIB = 1 << 20
 OFF_BY = MIB  # what the system's count of a process's pages may be off by, in bytes
 LEFT_OUT = 77  # as automake and meson have it
 TURNS, TRIES = 5, 3  # of the turns of a row the least processor time counts
-MADE, DONE, UNKNOWN, NO_MEMORY = b"HTTP/1.1 201 ", b"HTTP/1.1 20", b'{"error":"UnknownField",', b'{"error":"NoMemory",'
+MADE, DONE, UNKNOWN = b"HTTP/1.1 201 ", b"HTTP/1.1 20", b'{"error":"UnknownField",'
 ACT, REMOVED = b"POST /buckets/logs/act HTTP/1.1\r\n\r\n", b'{"action":"remove",'
 DUE, NONE_DUE = b"GET /buckets/logs/due HTTP/1.1\r\n\r\n", b'{"action":"none"}'
 CLASSES = ("STANDARD", "STANDARD_IA", "ONEZONE_IA", "GLACIER_IR", "GLACIER", "DEEP_ARCHIVE")
@@ -110,9 +110,14 @@ def short_names() -> Iterator[bytes]:
     return ("".join(it).encode() for count in (1, 2, 3) for it in itertools.product(letters, repeat=count))
 
 
-def nested_tariff(size: int) -> bytes:
-    """Dotted keys, nested as deep as they are read, with two bytes a part."""
-    return up_to(size, (name + b".a" * 78 + b"=0\n" for name in short_names()))
+def dotted_keys(size: int, parts: int, behind: bytes) -> bytes:
+    """Pairs of dotted keys with so many parts of two bytes, each with something behind it, as many as fit."""
+    return up_to(size, (name + b".a" * parts + b"=0" + behind for name in short_names()))
+
+
+def inline_tariff(size: int, parts: int, front: bytes, end: bytes) -> bytes:
+    """Dotted keys in an inline table."""
+    return front + dotted_keys(size - len(front) - len(end), parts, b",")[:-1] + end
 
 
 def tables_tariff(size: int) -> bytes:
@@ -121,9 +126,9 @@ def tables_tariff(size: int) -> bytes:
     return b"a=[" + b",".join([table] * ((size - 4) // (len(table) + 1))) + b"]"
 
 
-def plain_tariff(size: int) -> bytes:
-    """As many keys as there can be."""
-    return up_to(size, (name + b"=0\n" for name in short_names()))
+def headers_tariff(size: int) -> bytes:
+    """As many headers as there can be."""
+    return up_to(size, (b"[" + name + b"]\n" for name in short_names()))
 
 
 def tiers_tariff(first: str) -> bytes:
@@ -252,25 +257,32 @@ def explained(office: Office, rest: int, times: int, weight: int, turns: int = 1
 
 # The rows.
 
-def tariffs(office: Office, size: int, body: Callable[[int], bytes] = nested_tariff, count: int = 1) -> Found:
-    """Sends `count` tariffs at once, which are read whole and then refused."""
-    with serving(office) as server:
-        return spent(server, [message("PUT /tariff", body(size))] * count, 400, UNKNOWN)
-
-
-def limited_tariff(office: Office, size: int) -> Found:
-    """Sends a tariff to a server with a limit of 400 MB on its address space."""
-    with serving(office, limit=400_000_000) as server:
-        return spent(server, [message("PUT /tariff", nested_tariff(size))], 500, NO_MEMORY)._replace(weight=MIB)
-
-
-def tariffs_stay(office: Office, size: int, of_unit: bool = False) -> Found:
-    """Sends four tariffs at once, and looks at what the server keeps, also with the setting of the unit."""
+def unit_setting() -> dict[str, str]:
+    """The setting of the C library in the unit."""
     unit = (ROOT / "tools" / "systemd" / "office.service").read_text("utf-8")
-    setting = dict(re.findall(r"^Environment=(GLIBC_TUNABLES)=(\S+)$", unit, flags=re.MULTILINE)) if of_unit else {}
-    with serving(office, setting=setting) as server:
-        found = spent(server, [message("PUT /tariff", nested_tariff(size))] * 4, 400, UNKNOWN, memory=Server.settled)
-    return found._replace(weight=MIB) if of_unit else found
+    return dict(re.findall(r"^Environment=(GLIBC_TUNABLES)=(\S+)$", unit, flags=re.MULTILINE))
+
+
+def tariff_bodies(size: int) -> Iterator[tuple[bytes, bytes]]:
+    """Bodies of TOML for a tariff, and the front of the reply to each."""
+    yield from ((dotted_keys(size, parts, b"\n"), UNKNOWN) for parts in (0, 1, 10, 60, 78))
+    yield from ((body(size), UNKNOWN) for body in (tables_tariff, headers_tariff))
+    tables = (b"storage={", b"}"), (b"storage={STANDARD={", b"}}"), (b"storage={STANDARD={tiers=[{", b"}]}}"), (b"[storage.STANDARD]\nx=[{", b"}]")
+    for front, end in tables:
+        yield from ((inline_tariff(size, parts, front, end), b'{"error":"') for parts in (10, 60, 76))
+    yield b"[storage]\nSTANDARD=[" + b",".join([b"0"] * ((size - 22) // 2)) + b"]", b'{"error":"'
+    half = dotted_keys(size // 2, 76, b"\n")
+    yield half + inline_tariff(size // 2, 76, b"storage={", b"}\n"), UNKNOWN
+    yield inline_tariff(size // 2, 76, b"storage={STANDARD={", b"}}\n") + half, UNKNOWN
+
+
+def tariffs(office: Office, size: int, count: int = 1, of_unit: bool = True, memory: Callable = Server.peak) -> Found:
+    """Sends each of these tariffs `count` times at once to a server of its own, and returns what the costliest takes."""
+    found = []
+    for body, front in tariff_bodies(size):
+        with serving(office, setting=unit_setting() if of_unit else {}) as server:
+            found.append(spent(server, [message("PUT /tariff", body)] * count, 400, front, memory=memory))
+    return max(found, key=lambda it: it.bytes / it.weight)
 
 
 def put_bodies(size: int) -> Iterator[tuple[bytes, bytes]]:
@@ -295,7 +307,7 @@ def json_bodies(office: Office, size: int) -> Found:
     found = []
     for target, sent in (("lifecycle", configurations(size)), ("objects/k", put_bodies(size))):
         for body, front in sent:
-            with serving(office) as server:
+            with serving(office, setting=unit_setting()) as server:
                 found.append(spent(server, [message(f"PUT /buckets/logs/{target}", body)], 400, front))
     return max(found, key=lambda it: it.bytes / it.weight)
 
@@ -418,22 +430,14 @@ BODIES, REPLIES, FILE, PUT, ENTRY, RULE = "times the bodies", "times the replies
 # server of four workers has 3.4 MB before. If the words are not kept, the bound is what was measured on 2026-11-30. A bound on a time is
 # twice the words. The syncs are from FORMATS, "To append": "sync; write A5 at p; sync".
 TABLE = {row.name: row for row in (
-    # SECURITY: "585 MB of memory", and "41 MB of memory" for 64 KiB. Not kept by deeper keys: 624 MB, and 42 MB.
-    Row("tariff", "PUT /tariff of nested keys", "bytes", (65_536, MIB), (65_536,), tariffs, 609, BODIES),
-    # SECURITY: "2.3 GB for four at once". Not kept: 2.5 GB.
-    Row("tariff-four", "four of them at once", "bytes", (MIB,), (65_536,), partial(tariffs, count=4), 609, BODIES),
-    # SECURITY: "By hand the tariff got 500 under .. 400 MB."
-    Row("tariff-limited", "one of them under a limit of 400 MB: 500", "bytes", (MIB,), (MIB,), limited_tariff, 400_000_000 / MIB),
-    # SECURITY: "1.6 to 2.3 GB stay with the process without the setting".
-    Row("tariff-stays", "what stays of four of them", "bytes", (MIB,), (65_536,), tariffs_stay, 561, BODIES),
-    # SECURITY: "and 4 MB with it". Not kept: 5.7 MB, of which 2.2 MiB came with the tariffs.
-    Row("tariff-given-back", "the same with the setting of the unit", "bytes", (MIB,), (65_536,), partial(tariffs_stay, of_unit=True), 2.2),
-    # SECURITY: "37 MB for 175,456 plain keys".
-    Row("tariff-plain", "PUT /tariff of plain keys", "bytes", (MIB,), (65_536,), partial(tariffs, body=plain_tariff), 36, BODIES),
-    # SECURITY: "97 to 612 MB for small tables".
-    Row("tariff-tables", "PUT /tariff of small tables", "bytes", (MIB,), (65_536,), partial(tariffs, body=tables_tariff), 597, BODIES),
-    # SECURITY: "7 to 17 MB a worker".
-    Row("json", "PUT of JSON, of the costliest form", "bytes", (MIB,), (65_536,), json_bodies, 16.6, BODIES),
+    # SECURITY: "at most 16 MB".
+    Row("tariff", "PUT /tariff of TOML, of the costliest form", "bytes", (65_536, MIB), (65_536,), tariffs, 16, BODIES),
+    Row("tariff-four", "four of them at once", "bytes", (MIB,), (65_536,), partial(tariffs, count=4), 16, BODIES),
+    Row("tariff-no-setting", "one of them without the setting of the unit", "bytes", (MIB,), (65_536,),
+        partial(tariffs, of_unit=False), 21.6, BODIES),
+    Row("tariff-stays", "what stays of four of them", "bytes", (MIB,), (65_536,), partial(tariffs, count=4, memory=Server.settled), 1, BODIES),
+    # SECURITY: "at most 16 MB".
+    Row("json", "PUT of JSON, of the costliest form", "bytes", (MIB,), (65_536,), json_bodies, 16, BODIES),
     # SECURITY: "a reply of 698 MB, 964 MB of memory", of which 144 MB are the versions.
     Row("reply", "GET of a key, each version with the greatest tags", "versions", (30_000,), (500,), replies, 1.205, REPLIES),
     # SECURITY: "3.4 GB for four at once".

@@ -6,19 +6,20 @@ import pathlib
 import re
 import resource
 import socket
+import struct
 import subprocess
-import threading
 import time
 
 import live
 from free_port import HOST, free_port
 from serve_client import LIMIT, Client, entries_of, put_object, request
-from spelled import create, journal, put
+from spelled import create, frame, journal, put, text
 
 UNIT = (live.TOOLS / "systemd" / "office.service").read_text("utf-8")
 MIB = 1 << 20
 LACKS = (500, {"error": "NoMemory", "number": 115})
 GOES_ON = 3.0  # seconds for a server to begin
+WIDEST = "\U00010000"  # a character of four bytes
 
 
 def size_in_unit(name):
@@ -27,9 +28,11 @@ def size_in_unit(name):
     return int(number) << {"M": 20, "G": 30}[unit]
 
 
-def nested_tariff():
-    """1,000,000 bytes of a tariff with nested keys, which take far more memory than their bytes."""
-    return "".join(f"b{place}." + ".".join("a" * 70) + "=0\n" for place in range(6_800))[:1_000_000]
+def great_versions(count):
+    """A journal with versions of a key, each with the ten greatest tags."""
+    tags = b"".join(text(chr(97 + it) + WIDEST * 127) + text(WIDEST * 256) for it in range(10))
+    version = frame(1, 5, text("load") + text("k") + struct.pack(">QBB", 1000, 0, 10) + tags)
+    return journal(create(1, "load"), frame(1, 2, text("load") + b"\1"), *[version] * count)
 
 
 class Limited(live.Case):
@@ -50,17 +53,17 @@ class Limited(live.Case):
         done = self.ended([self.program, "run"], cwd=self.folder / "served", input=sent, preexec_fn=self.within(limit))
         return done.returncode, done.stderr, done.stdout
 
-    def start(self, limit, workers):
-        """A server under a limit, and its port; nothing if it does not answer."""
+    def start(self, limit, workers, patience=GOES_ON):
+        """A server under a limit, and its port; nothing if it does not answer within so many seconds."""
         port = free_port()
         words = [self.program, "serve", "--listen", f"{HOST}:{port}", "--workers", str(workers)]
         server = subprocess.Popen(words, cwd=self.folder / "served", stdin=subprocess.DEVNULL, stdout=subprocess.DEVNULL, stderr=subprocess.DEVNULL,
                                   preexec_fn=self.within(limit))
-        late = time.monotonic() + GOES_ON
+        late = time.monotonic() + patience
         while server.poll() is None and time.monotonic() < late:
             try:
-                socket.create_connection((HOST, port), GOES_ON).close()
-                with Client(port, GOES_ON) as client:
+                socket.create_connection((HOST, port), patience).close()
+                with Client(port, patience) as client:
                     if client.ask(request("GET", "/buckets/load")):
                         return server, port
             except OSError:
@@ -132,26 +135,28 @@ class Limited(live.Case):
         self.check("it was refused at least once, and done in the end", (LACKS, 201), (found[0], found[-1][0]))
 
     def test_the_limit_of_the_unit(self):
-        """Four of the costliest requests at once, with the workers and the limit of the unit."""
-        self.new_folder("served")
-        self.office("run", sent=request("PUT", "/buckets/load"), folder=self.folder / "served")
+        """Four of the costliest requests at once, with the workers and the limit of the unit: the versions of a key with great tags, which are copied
+        for each reply. No client reads on behind the status until each has one."""
+        path = self.new_folder("served") / "office-data" / "journal"
+        (path.parent / "check.0").unlink(missing_ok=True)
+        path.write_bytes(great_versions(8_000))
         workers, limit = int(re.search(r"--workers (\d+)", UNIT)[1]), size_in_unit("LimitAS")
-        server, port = self.start(limit, workers)
+        server, port = self.start(limit, workers, LIMIT)
         self.check("it begins", True, bool(server))
         self.addCleanup(self.stop, server)
-        found = []
-        threads = [threading.Thread(target=lambda: found.append(self.ask(port, request("PUT", "/tariff", nested_tariff())))) for _ in range(4)]
-        for it in threads:
-            it.start()
-        for it in threads:
-            it.join(4 * LIMIT)
-        self.check("each has a reply: refused, or 500", [True] * 4, [it is not None and (it[0] == 400 or it == LACKS) for it in found])
+        clients = [Client(port) for _ in range(4)]
+        for it in clients:
+            it.send(request("GET", "/buckets/load/objects/k"))
+        found = [int(it.socket.recv(12, socket.MSG_WAITALL)[9:]) for it in clients]
+        self.check("each has a reply, or 500", [True] * 4, [it in (200, 500) for it in found])
         about = pathlib.Path(f"/proc/{server.pid}/status").read_text("utf-8")
         greatest = {name: int(kib) << 10 for name, kib in re.findall(r"^(Vm\w+):\s+(\d+) kB", about, flags=re.MULTILINE)}
         self.check("its addresses and memory stay below the limit, and that below MemoryMax", True,
                    greatest["VmHWM"] <= greatest["VmPeak"] <= limit < size_in_unit("MemoryMax"))
+        for it in clients:
+            it.reset()
         self.check("it goes on", (None, 201), (server.poll(), self.ask(port, put_object("after"))[0]))
-        print(f"test_limited_memory: replies {sorted(it[0] for it in found)}, VmPeak {greatest['VmPeak'] >> 20} MiB, VmHWM {greatest['VmHWM'] >> 20} MiB")
+        print(f"test_limited_memory: replies {sorted(found)}, VmPeak {greatest['VmPeak'] >> 20} MiB, VmHWM {greatest['VmHWM'] >> 20} MiB")
 
 
 if __name__ == "__main__":

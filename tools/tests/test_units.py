@@ -56,7 +56,7 @@ class GivesBack(unittest.TestCase):
     def test_one_setting(self):
         """The setting of the C library is that of both pages."""
         words = "GLIBC_TUNABLES=" + setting("Environment=GLIBC_TUNABLES")
-        self.assertEqual("GLIBC_TUNABLES=glibc.malloc.tcache_count=0:glibc.malloc.mxfast=0", words)
+        self.assertEqual("GLIBC_TUNABLES=glibc.malloc.tcache_count=0:glibc.malloc.mxfast=0:glibc.malloc.mmap_threshold=131072", words)
         for page in (OPERATIONS, SECURITY):
             self.assertEqual([words], re.findall(r"GLIBC_TUNABLES=[^\s`]+", page))
 
