@@ -276,13 +276,19 @@ def tariff_bodies(size: int) -> Iterator[tuple[bytes, bytes]]:
     yield inline_tariff(size // 2, 76, b"storage={STANDARD={", b"}}\n") + half, UNKNOWN
 
 
-def tariffs(office: Office, size: int, count: int = 1, of_unit: bool = True, memory: Callable = Server.peak) -> Found:
-    """Sends each of these tariffs `count` times at once to a server of its own, and returns what the costliest takes."""
+def tariffs(office: Office, size: int, of_unit: bool = True) -> Found:
+    """Sends each of these tariffs to a server of its own, and returns what the costliest takes."""
     found = []
     for body, front in tariff_bodies(size):
         with serving(office, setting=unit_setting() if of_unit else {}) as server:
-            found.append(spent(server, [message("PUT /tariff", body)] * count, 400, front, memory=memory))
+            found.append(spent(server, [message("PUT /tariff", body)], 400, front))
     return max(found, key=lambda it: it.bytes / it.weight)
+
+
+def four_tariffs(office: Office, size: int, memory: Callable = Server.peak) -> Found:
+    """Sends a tariff of nested keys four times at once, with the setting of the unit."""
+    with serving(office, setting=unit_setting()) as server:
+        return spent(server, [message("PUT /tariff", dotted_keys(size, 60, b"\n"))] * 4, 400, UNKNOWN, memory=memory)
 
 
 def put_bodies(size: int) -> Iterator[tuple[bytes, bytes]]:
@@ -432,10 +438,10 @@ BODIES, REPLIES, FILE, PUT, ENTRY, RULE = "times the bodies", "times the replies
 TABLE = {row.name: row for row in (
     # SECURITY: "at most 16 MB".
     Row("tariff", "PUT /tariff of TOML, of the costliest form", "bytes", (65_536, MIB), (65_536,), tariffs, 16, BODIES),
-    Row("tariff-four", "four of them at once", "bytes", (MIB,), (65_536,), partial(tariffs, count=4), 16, BODIES),
+    Row("tariff-four", "four at once", "bytes", (MIB,), (65_536,), four_tariffs, 16, BODIES),
     Row("tariff-no-setting", "one of them without the setting of the unit", "bytes", (MIB,), (65_536,),
         partial(tariffs, of_unit=False), 21.6, BODIES),
-    Row("tariff-stays", "what stays of four of them", "bytes", (MIB,), (65_536,), partial(tariffs, count=4, memory=Server.settled), 1, BODIES),
+    Row("tariff-stays", "what stays of four of them", "bytes", (MIB,), (65_536,), partial(four_tariffs, memory=Server.settled), 1, BODIES),
     # SECURITY: "at most 16 MB".
     Row("json", "PUT of JSON, of the costliest form", "bytes", (MIB,), (65_536,), json_bodies, 16, BODIES),
     # SECURITY: "a reply of 698 MB, 964 MB of memory", of which 144 MB are the versions.
