@@ -452,7 +452,7 @@ TABLE = {row.name: row for row in (
     Row("reply-four", "four of them at once", "versions", (30_000,), (500,), partial(replies, count=4), 0.215, REPLIES),
     # SECURITY: "a reply of 19 MB; with 64 workers and clients that do not read 0.6 GB".
     Row("reply-unread", "64 GETs of a key that are not read", "versions", (100_000,), (20_000,),
-        partial(replies, count=64, character="", unread=True), 0.485, REPLIES),
+        partial(replies, count=64, character="", unread=True), 0.51, REPLIES),
     # PERFORMANCE: 38,789 puts a second.
     Row("put-stack", "PUT on a key with versions", "versions", (190_000,), (2_000,), put_on_stack, None, "MiB", 0.052, syncs=2),
     # SECURITY: "it looks at all versions of the key, for each rule".
