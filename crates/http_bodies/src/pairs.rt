@@ -41,7 +41,8 @@ pub(crate) fn text_pairs<'a>(
     alloc: Global,
     value: &Element<'_, 'a>,
 ) -> Result<Option<Texts<'a>>, AllocError>
-    ensures { IfOk result (λ found. option_map (λ texts. pairs_of texts.entries) found ≡ text_pairs (data_of value.now)) }
+    ensures { IfOk result (λ found. option_map (λ texts. pairs_of texts.entries) found
+        ≡ text_pairs (data_of value.now)) }
 {
     match value.fields() {
         Some(fields) => texts(alloc, fields),

@@ -46,7 +46,8 @@ const MOST_TAGS: usize = 10;
 
 #[tactic(auto, unfolding(office_base::specs::Tags::are_tags, office_base::specs::Tags::by_key))]
 pub(crate) fn tags_in_range(alloc: Global, texts: Option<Texts<'_>>) -> Result<Tags, BodyFault>
-    ensures { BodySays (λ tags. tags) result (tags_in_range (option_map (λ found. pairs_of found.entries) texts.entry)) }
+    ensures { BodySays (λ tags. tags) result (tags_in_range (option_map (λ found. pairs_of found.entries)
+        texts.entry)) }
 {
     let pairs = match texts {
         Some(texts) => {

@@ -61,7 +61,8 @@ fn read_on<S: Source>(input: &mut S, bytes: &mut Vec<u8>) -> Result<usize, Confi
 
 // Reads the input to its end, unless it has more bytes than a configuration may have.
 fn read_whole<S: Source>(alloc: Global, input: &mut S) -> Result<Vec<u8>, ConfigurationFault>
-    ensures whole { IfOk result (λ bytes. IsWholeInput (stream_ends (S.left input.old) (S.left input.new)) bytes.items) }
+    ensures whole { IfOk result (λ bytes. IsWholeInput (stream_ends (S.left input.old) (S.left input.new))
+        bytes.items) }
     ensures too_long { result ≡ Err ConfigurationFault.TooLong
         → IsTooLong (stream_ends (S.left input.old) (S.left input.new)) }
     ensures faults { (fault : RulesFault) → result ≡ Err (ConfigurationFault.Refused fault) → ⊥ }

@@ -103,7 +103,8 @@ fn open<'s>(alloc: Global, document: &Keys<'s>, name: &str) -> Result<Opened<'s>
 }
 
 fn open_found<'s>(alloc: Global, found: Found<'s>) -> Result<Opened<'s>, AllocError>
-    ensures { IfOk result (λ opened. (row : Row) (d : Data) → Says 80 row found.entry d → IsOpened row opened (as_table d)) }
+    ensures { IfOk result (λ opened. (row : Row) (d : Data) → Says 80 row found.entry d
+        → IsOpened row opened (as_table d)) }
 {
     match found {
         Found::Table(table) => Ok(Opened::Inside(table)),
@@ -211,7 +212,8 @@ fn check_classes(
 
 // The month that a value says.
 fn month_of(alloc: Global, found: Found) -> Result<Option<Month>, AllocError>
-    ensures { IfOk result (λ month. (depth : ℕ) (row : Row) (d : Data) → Says depth row found.entry d → month ≡ month_said d) }
+    ensures { IfOk result (λ month. (depth : ℕ) (row : Row) (d : Data) → Says depth row found.entry d
+        → month ≡ month_said d) }
 {
     match found {
         Found::Value(text) => month_in(alloc, text),
@@ -309,7 +311,8 @@ fn read_tiers(
     depth: usize,
     class: Class,
 ) -> Result<Tiers, TariffFault>
-    ensures { (ms : Members) → IsTable depth (row_of keys.now) number ms → TariffGives (λ tiers. tiers) result (tiers_in ms class) }
+    ensures { (ms : Members) → IsTable depth (row_of keys.now) number ms
+        → TariffGives (λ tiers. tiers) result (tiers_in ms class) }
 {
     match keys.get(number, class.name().as_bytes()) {
         Some(found) => {
@@ -372,7 +375,8 @@ fn storage_opened(
     opened: &Opened,
 ) -> Result<[Tiers; 6], TariffFault>
     ensures { (o : Option Members) → IsOpened (row_of document.now) opened.now o
-        → TariffGives (λ tiers. tiers) result (each_of (tiers_in (unwrap_or o no_members)) (classes_of TariffTable.Storage)) }
+        → TariffGives (λ tiers. tiers) result (each_of (tiers_in (unwrap_or o no_members))
+        (classes_of TariffTable.Storage)) }
 {
     match opened {
         Opened::Inside(number) => read_storage(alloc, document, *number, RECURSION_LIMIT),

@@ -47,7 +47,8 @@ fn price_by(number: Option<i64>) -> Option<u32>
 
 // The price that a value is.
 pub(crate) fn price_of(alloc: Global, found: Found) -> Result<Option<u32>, AllocError>
-    ensures { IfOk result (λ price. (depth : ℕ) (row : Row) (d : Data) → Says depth row found.entry d → price ≡ price_of d) }
+    ensures { IfOk result (λ price. (depth : ℕ) (row : Row) (d : Data) → Says depth row found.entry d
+        → price ≡ price_of d) }
 {
     let number = integer_in(alloc, found)?;
     Ok(price_by(number))
@@ -70,7 +71,8 @@ fn upto_by(number: Option<i64>) -> Option<u32>
 
 // The end of a tier that a value is.
 fn upto_of(alloc: Global, found: Found) -> Result<Option<u32>, AllocError>
-    ensures { IfOk result (λ upto. (depth : ℕ) (row : Row) (d : Data) → Says depth row found.entry d → upto ≡ upto_of d) }
+    ensures { IfOk result (λ upto. (depth : ℕ) (row : Row) (d : Data) → Says depth row found.entry d
+        → upto ≡ upto_of d) }
 {
     let number = integer_in(alloc, found)?;
     Ok(upto_by(number))
@@ -78,7 +80,8 @@ fn upto_of(alloc: Global, found: Found) -> Result<Option<u32>, AllocError>
 
 // The optional end of a tier; None if the value is invalid.
 fn end_said(alloc: Global, found: Option<Found>) -> Result<Option<Option<u32>>, AllocError>
-    ensures { IfOk result (λ end. (depth : ℕ) (row : Row) (o : Option Data) → Finds depth row found.entry o → end ≡ end_said o) }
+    ensures { IfOk result (λ end. (depth : ℕ) (row : Row) (o : Option Data) → Finds depth row found.entry o
+        → end ≡ end_said o) }
 {
     match found {
         Some(found) => match upto_of(alloc, found)? {
@@ -95,7 +98,8 @@ fn tier_by(
     price: Option<Found>,
     end: Option<Option<u32>>,
 ) -> Result<Option<Tier>, AllocError>
-    ensures { IfOk result (λ tier. (depth : ℕ) (row : Row) (o : Option Data) → Finds depth row price.entry o → tier ≡ tier_by o end) }
+    ensures { IfOk result (λ tier. (depth : ℕ) (row : Row) (o : Option Data) → Finds depth row price.entry o
+        → tier ≡ tier_by o end) }
 {
     let Some(found) = price else {
         return Ok(None);
@@ -112,7 +116,8 @@ fn tier_by(
 
 // The tier that a table says.
 fn tier_among(alloc: Global, keys: &Keys, table: u32) -> Result<Option<Tier>, AllocError>
-    ensures { IfOk result (λ tier. (depth : ℕ) (ms : Members) → IsTable depth (row_of keys.now) table ms → tier ≡ tier_among ms) }
+    ensures { IfOk result (λ tier. (depth : ℕ) (ms : Members) → IsTable depth (row_of keys.now) table ms
+        → tier ≡ tier_among ms) }
 {
     match keys.first_unknown(table, &["price", "upto"]) {
         Some(_) => Ok(None),
@@ -272,7 +277,8 @@ pub(crate) fn tiers_of(
     found: Found,
     depth: usize,
 ) -> Result<Tiers, TariffFault>
-    ensures { (d : Data) → Says depth (row_of keys.now) found.entry d → TariffGives (λ tiers. tiers) result (tiers_of class d) }
+    ensures { (d : Data) → Says depth (row_of keys.now) found.entry d
+        → TariffGives (λ tiers. tiers) result (tiers_of class d) }
 {
     match found {
         Found::Value(text) => {

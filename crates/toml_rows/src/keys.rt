@@ -162,7 +162,8 @@ impl<'s> Keys<'s> {
         high: bool,
         what: What,
     ) -> Result<u32, AllocError>
-        ensures { (level : ℕ → ℕ) → IsFoundBy (row_of self.old) level → IsFree (row_of self.old) level table name.now at high
+        ensures { (level : ℕ → ℕ) → IsFoundBy (row_of self.old) level
+            → IsFree (row_of self.old) level table name.now at high
             → IsTrue (is_key what) → (row_of self.old).named ≡ (row_of self.old).count
             → IfOk result (λ n. Adds (row_of self.old) (row_of self.new) table name.now what n) }
     {

@@ -72,7 +72,8 @@ fn define<'s>(
     key: &Key,
     what: Definition<'s>,
 ) -> Result<u32, ParseError>
-    ensures { Defines (row_of keys.old) (row_of keys.new) section (key_view key.now, definition_view what.entry) result }
+    ensures { Defines (row_of keys.old) (row_of keys.new) section (key_view key.now, definition_view what.entry)
+        result }
 {
     match what {
         Definition::Pair(text) => {

@@ -41,7 +41,8 @@ fn pass_dots(keys: &mut Keys, part: u32) -> Result<u32, ParseError>
 
 // The table of a name on a header's path; it is made if it is missing.
 fn enter_header(keys: &mut Keys, table: u32, name: &[u8]) -> Result<u32, ParseError>
-    ensures { (depth : ℕ) → Enters depth (row_of keys.old) (row_of keys.new) table name.now (mark_header name.now) result }
+    ensures { (depth : ℕ) → Enters depth (row_of keys.old) (row_of keys.new) table name.now (mark_header name.now)
+        result }
 {
     match keys.find(table, name) {
         Seat::Found(part) => {
@@ -54,7 +55,8 @@ fn enter_header(keys: &mut Keys, table: u32, name: &[u8]) -> Result<u32, ParseEr
 
 // The same of a dotted key.
 fn enter_dots(keys: &mut Keys, table: u32, name: &[u8]) -> Result<u32, ParseError>
-    ensures { (depth : ℕ) → Enters depth (row_of keys.old) (row_of keys.new) table name.now (mark_dots name.now) result }
+    ensures { (depth : ℕ) → Enters depth (row_of keys.old) (row_of keys.new) table name.now (mark_dots name.now)
+        result }
 {
     match keys.find(table, name) {
         Seat::Found(part) => {
@@ -67,7 +69,8 @@ fn enter_dots(keys: &mut Keys, table: u32, name: &[u8]) -> Result<u32, ParseErro
 
 // The table at the end of a header's path.
 fn through_header(keys: &mut Keys, table: u32, path: &[String]) -> Result<u32, ParseError>
-    ensures { (depth : ℕ) → Follows depth (row_of keys.old) (row_of keys.new) table (path_view path.now) (along_header (path_view path.now)) result }
+    ensures { (depth : ℕ) → Follows depth (row_of keys.old) (row_of keys.new) table (path_view path.now)
+        (along_header (path_view path.now)) result }
 {
     let [name, rest @ ..] = path else {
         return Ok(table);
@@ -79,7 +82,8 @@ fn through_header(keys: &mut Keys, table: u32, path: &[String]) -> Result<u32, P
 
 // The table at the end of a dotted path.
 fn through_dots(keys: &mut Keys, table: u32, path: &[String]) -> Result<u32, ParseError>
-    ensures { (depth : ℕ) → Follows depth (row_of keys.old) (row_of keys.new) table (path_view path.now) (along_dots (path_view path.now)) result }
+    ensures { (depth : ℕ) → Follows depth (row_of keys.old) (row_of keys.new) table (path_view path.now)
+        (along_dots (path_view path.now)) result }
 {
     let [name, rest @ ..] = path else {
         return Ok(table);
@@ -96,7 +100,8 @@ fn define_value<'s>(
     name: &[u8],
     text: &'s str,
 ) -> Result<(), ParseError>
-    ensures { (depth : ℕ) → Edits depth (row_of keys.old) (row_of keys.new) table (at_key name.now (key_value (data_at depth text.now))) result }
+    ensures { (depth : ℕ) → Edits depth (row_of keys.old) (row_of keys.new) table
+        (at_key name.now (key_value (data_at depth text.now))) result }
 {
     let value = keys.push_value(text)?;
     match keys.find(table, name) {
@@ -115,7 +120,8 @@ pub(crate) fn put<'s>(
     key: &Key,
     text: &'s str,
 ) -> Result<(), ParseError>
-    ensures { (depth : ℕ) → Edits depth (row_of keys.old) (row_of keys.new) table (put (key_view key.now) (data_at depth text.now)) result }
+    ensures { (depth : ℕ) → Edits depth (row_of keys.old) (row_of keys.new) table
+        (put (key_view key.now) (data_at depth text.now)) result }
 {
     let inner = through_dots(keys, table, &key.path)?;
     define_value(keys, inner, key.last.as_bytes(), text)?;
@@ -124,7 +130,8 @@ pub(crate) fn put<'s>(
 
 // A header may name a table that other headers only passed through.
 fn define_table(keys: &mut Keys, table: u32, name: &[u8]) -> Result<u32, ParseError>
-    ensures { (depth : ℕ) → Opens depth (row_of keys.old) (row_of keys.new) table name.now (at_key name.now std_table) result }
+    ensures { (depth : ℕ) → Opens depth (row_of keys.old) (row_of keys.new) table name.now (at_key name.now std_table)
+        result }
 {
     match keys.find(table, name) {
         Seat::Found(part) => match keys.what(part) {
@@ -149,7 +156,8 @@ pub(crate) fn open_table(keys: &mut Keys, key: &Key) -> Result<u32, ParseError>
 
 // Adds an element to the array at a part.
 fn next_element(keys: &mut Keys, part: u32, before: u32) -> Result<u32, AllocError>
-    ensures { (t : ℕ) (k : List ℕ) → HasKey (row_of keys.old) part t k → (row_of keys.old).named ≡ (row_of keys.old).count
+    ensures { (t : ℕ) (k : List ℕ) → HasKey (row_of keys.old) part t k
+        → (row_of keys.old).named ≡ (row_of keys.old).count
         → IfOk result (λ n. NextOf (row_of keys.old) (row_of keys.new) part before n) }
 {
     let element = keys.push(part, &[], What::Element(before))?;
@@ -159,7 +167,8 @@ fn next_element(keys: &mut Keys, part: u32, before: u32) -> Result<u32, AllocErr
 
 // A header in double brackets adds an element to an array of tables.
 fn define_element(keys: &mut Keys, table: u32, name: &[u8]) -> Result<u32, ParseError>
-    ensures { (depth : ℕ) → Opens depth (row_of keys.old) (row_of keys.new) table name.now (at_key name.now array_table) result }
+    ensures { (depth : ℕ) → Opens depth (row_of keys.old) (row_of keys.new) table name.now
+        (at_key name.now array_table) result }
 {
     match keys.find(table, name) {
         Seat::Found(part) => match keys.what(part) {

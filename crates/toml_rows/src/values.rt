@@ -50,7 +50,8 @@ fn atom(alloc: Global, s: &str) -> Result<&str, ParseError>
 
 #[cycle(value)]
 fn array(alloc: Global, s: &str, depth: usize) -> Result<&str, ParseError>
-    ensures value { (n : ℕ) → length s.now < n → Gives (λ rest. rest.now) result (rest_of (spec.items (spec.val depth) n no_items s.now)) }
+    ensures value { (n : ℕ) → length s.now < n
+        → Gives (λ rest. rest.now) result (rest_of (spec.items (spec.val depth) n no_items s.now)) }
     ensures shorter { IfOk result (λ rest. length rest.now < length s.now) }
 {
     let mut rest = s;
@@ -72,7 +73,8 @@ pub(crate) fn inline_table(
     depth: usize,
     room: usize,
 ) -> Result<(Keys<'_>, &str), ParseError>
-    ensures value { (n : ℕ) → length s.now < n → ReadsTable depth result (spec.members (spec.val depth) n no_nodes s.now) }
+    ensures value { (n : ℕ) → length s.now < n
+        → ReadsTable depth result (spec.members (spec.val depth) n no_nodes s.now) }
     ensures shorter { Shortens s.now result }
 {
     let mut keys = Keys::with_room(alloc, room)?;
