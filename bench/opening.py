@@ -1,10 +1,12 @@
 #!/usr/bin/env python3
-"""How fast a journal is opened: python3 bench/opening.py PROGRAM [FOLDER] [ROUNDS] [ENTRIES]
+"""How fast a journal is opened: python3 bench/opening.py PROGRAM [FOLDER] [ROUNDS] [ENTRIES] [BASELINE]
 
 PROGRAM is crates/office_cli/out/office_cli. A journal with a bucket and ENTRIES puts of objects (100,000), each under a
 key of its own, is made in FOLDER. Then runs over an empty input, which open it and end, alternate with plain reads of the
 same file by this script: first without checkpoints, so that the whole journal is replayed, and, if the program saved one,
-with it (`checkpoint_seconds`). Runs of one put more follow, whose end saves a checkpoint (`end_seconds`, without the opening). The time of a run includes the start of the process, about a millisecond.
+with it (`checkpoint_seconds`). BASELINE is start_baseline.rs, built: it makes the records of the same checkpoint, and nothing else
+(`baseline_seconds`). Runs of one put more follow, whose end saves a checkpoint (`end_seconds`, without the opening). The time of a run includes the
+start of the process, about a millisecond.
 """
 import datetime
 import os
@@ -27,7 +29,7 @@ def read_all(path):
         return file.read()
 
 
-def main(program, folder=None, rounds=9, entries=100_000):
+def main(program, folder=None, rounds=9, entries=100_000, baseline=None):
     with tempfile.TemporaryDirectory(dir=folder) as work:
         subprocess.run([program, "init"], cwd=work, check=True, stdout=subprocess.DEVNULL)
         bucket = b"PUT /buckets/load HTTP/1.1\r\nHost: office\r\n\r\n"
@@ -44,21 +46,26 @@ def main(program, folder=None, rounds=9, entries=100_000):
             for path, data in slots.items():
                 pathlib.Path(path).write_bytes(data if kept else b"")
             return seconds(lambda: subprocess.run([program, "run"], cwd=work, check=True, input=sent, stdout=subprocess.DEVNULL))
-        opens, reads, loads = [], [], []
+        opens, reads, loads, bases = [], [], [], []
         for _ in range(rounds):
             opens.append(opening(False))
             reads.append(seconds(lambda: read_all(journal)))
             loads += [opening(True)] if any(slots.values()) else []
+            if loads and baseline:
+                slot = max(slots, key=lambda it: len(slots[it]))
+                bases.append(seconds(lambda: subprocess.run([baseline, slot], check=True, stdout=subprocess.DEVNULL)))
         ends = [opening(True, put % (entries + it)) for it in range(rounds)] if loads else []
         opened, read = statistics.median(opens), statistics.median(reads)
         print(f"entries {entries} bytes {os.path.getsize(journal)} open_seconds {opened:.4f} read_seconds {read:.4f}", end=" ")
         if loads:
             print(f"checkpoint_bytes {max(map(len, slots.values()))} checkpoint_seconds {statistics.median(loads):.4f}", end=" ")
+            if bases:
+                print(f"baseline_seconds {statistics.median(bases):.4f}", end=" ")
             print(f"end_seconds {statistics.median(ends) - statistics.median(loads):.4f}", end=" ")
         print(f"entries_per_second {entries / opened:.0f} rounds {rounds} date {datetime.date.today()}")
 
 
 if __name__ == "__main__":
-    if not 2 <= len(sys.argv) <= 5:
+    if not 2 <= len(sys.argv) <= 6:
         sys.exit(__doc__)
-    main(os.path.abspath(sys.argv[1]), *sys.argv[2:3], *map(int, sys.argv[3:]))
+    main(os.path.abspath(sys.argv[1]), *sys.argv[2:3], *map(int, sys.argv[3:5]), *map(os.path.abspath, sys.argv[5:]))
