@@ -1,6 +1,7 @@
 mod Examples
 pub mod Amounts
 pub mod DocumentLemmas
+pub mod ManyTiers
 pub mod PriceLemmas
 pub mod RoomLemmas
 pub mod SixPrices

@@ -12,7 +12,7 @@ ghost use Rattle.tariff.specs.Reading.{price_of, upto_of, end_said, tier_by, tie
 
 use crate::fault::{TariffFault, TariffTable};
 use crate::prices::MOST_PRICE;
-use crate::tiers::{Tier, Tiers, have_ends};
+use crate::tiers::{MOST_TIERS, Tier, Tiers, have_ends};
 use class_rules::Class;
 use std::alloc::{AllocError, Global};
 use toml_rows::{Found, Keys, elements, inline, integer};
@@ -233,7 +233,7 @@ fn one_of(class: Class, number: Option<i64>) -> Result<Tiers, TariffFault>
     }
 }
 
-// The tiers that the text of a value says for a class.
+// The tiers that the text of a value says for a class. No more elements are looked at than there may be tiers.
 fn tiers_of_text(
     alloc: Global,
     class: Class,
@@ -244,6 +244,9 @@ fn tiers_of_text(
 {
     match elements(alloc, text, depth)? {
         Some(texts) => {
+            if texts.len() > MOST_TIERS {
+                return Err(TariffFault::BadTiers { class });
+            }
             let tiers = tiers_in_list(alloc, class, &texts, depth.saturating_sub(1))?;
             in_range(class, tiers)
         }
@@ -254,7 +257,7 @@ fn tiers_of_text(
     }
 }
 
-// The tiers that an array of tables says for a class.
+// The tiers that an array of tables says for a class. No more tables are looked at than there may be tiers.
 fn tiers_of_tables(
     alloc: Global,
     class: Class,
@@ -265,6 +268,9 @@ fn tiers_of_tables(
         → TariffGives (λ tiers. tiers) result (tiers_of class (array ds)) }
 {
     let numbers = keys.elements_of(alloc, last)?;
+    if numbers.len() > MOST_TIERS {
+        return Err(TariffFault::BadTiers { class });
+    }
     let tiers = tiers_in_tables(alloc, class, keys, &numbers)?;
     in_range(class, tiers)
 }
