@@ -2,8 +2,8 @@
 """What one request may cost: python3 bench/costs.py [--small] [--no-times] [--port PORT] PROGRAM [ROW..]
 
 Measures the rows of the table below, or those that are named, and compares each figure with its bound. A bound is what the documents
-state, or what was measured if the program does not keep that. A figure without a bound is in no document. PROGRAM is
-crates/office_cli/out/office_cli. Each size has an office of its own, in a new folder in /dev/shm.
+state, or what was measured if the program does not keep that. A figure without a bound is in no document, or differs much between
+machines. PROGRAM is crates/office_cli/out/office_cli. Each size has an office of its own, in a new folder in /dev/shm.
 
   memory     The most that the process had (VmHWM) above what it had before the request. Of a start and of `explain` it is what they
              had above `run` over an office without records. The system counts pages in lots, so it may be off by 1 MiB.
@@ -267,6 +267,7 @@ def tariff_bodies(size: int) -> Iterator[tuple[bytes, bytes]]:
     """Bodies of TOML for a tariff, and the front of the reply to each."""
     yield from ((dotted_keys(size, parts, b"\n"), UNKNOWN) for parts in (0, 1, 10, 60, 78))
     yield from ((body(size), UNKNOWN) for body in (tables_tariff, headers_tariff))
+    yield b"[[storage.STANDARD]]\nprice=0\n" * (size // 29), b"{"
     tables = (b"storage={", b"}"), (b"storage={STANDARD={", b"}}"), (b"storage={STANDARD={tiers=[{", b"}]}}"), (b"[storage.STANDARD]\nx=[{", b"}]")
     for front, end in tables:
         yield from ((inline_tariff(size, parts, front, end), b"{") for parts in (10, 60, 76))
@@ -432,9 +433,9 @@ def explain_sparse(office: Office, size: int) -> Found:
 
 
 BODIES, REPLIES, FILE, PUT, ENTRY, RULE = "times the bodies", "times the replies", "times the journal", "bytes a put", "an entry", "a rule"
-# Above each row are the words of the document from which its bound is. A MB there is 1,000 KiB, and counts all that the process has: a
-# server of four workers has 3.4 MB before. If the words are not kept, the bound is what was measured on 2026-11-30. A bound on a time is
-# twice the words. The syncs are from FORMATS, "To append": "sync; write A5 at p; sync".
+# Above each row are the words of the document from which its bound is. A MB there is 1,000 KiB, above what the process had before. If the
+# words are not kept, the bound is what was measured. A bound on a time is twice the words. The syncs are from FORMATS, "To append": "sync;
+# write A5 at p; sync".
 TABLE = {row.name: row for row in (
     # SECURITY: "at most 15 MB a worker". The aim is 16 times the body.
     Row("tariff", "PUT /tariff of TOML, of the costliest form", "bytes", (65_536, MIB), (65_536,), tariffs, 16, BODIES),
@@ -448,9 +449,12 @@ TABLE = {row.name: row for row in (
     Row("json", "PUT of JSON, of the costliest form", "bytes", (MIB,), (65_536,), json_bodies, 16.6, BODIES),
     # SECURITY: "a reply of 698 MB, 143 MB of memory", which are the versions.
     Row("reply", "GET of a key, each version with the greatest tags", "versions", (30_000,), (500,), replies, 0.215, REPLIES),
-    # SECURITY: "0.6 GB for four at once".
+    # SECURITY: "0.6 GB for four".
     Row("reply-four", "four of them at once", "versions", (30_000,), (500,), partial(replies, count=4), 0.215, REPLIES),
-    # SECURITY: "a reply of 19 MB; with 64 workers and clients that do not read 0.6 GB".
+    # SECURITY: "a reply of 156 MB, 159 MB of memory".
+    Row("reply-widest", "GET of a key, with tags of characters of four bytes", "versions", (10_000,), (200,),
+        partial(replies, character=WIDEST), 1.1, REPLIES),
+    # SECURITY: "a reply of 19 MB; with 64 workers and clients that do not read 0.6 GB of memory".
     Row("reply-unread", "64 GETs of a key that are not read", "versions", (100_000,), (20_000,),
         partial(replies, count=64, character="", unread=True), 0.51, REPLIES),
     # PERFORMANCE: 38,789 puts a second.
@@ -470,7 +474,7 @@ TABLE = {row.name: row for row in (
     Row("rules-refused", "the same with an error in the last rule", "rules", (1_000,), (100,),
         partial(set_rules, wrong=True), None, BODIES, 0.02, RULE),
     Row("tariffs", "PUT /tariff of eight tiers, beside others", "tariffs", (100,), (100,), set_tariffs, syncs=2),
-    # SECURITY: "some 175 MB for the kept replies: computed", of 10,000 puts. Not kept: 177 million bytes.
+    # SECURITY: "177 MB for the kept replies", of 10,000 puts.
     Row("tokens", "PUT with a token, the greatest tags and names", "puts", (10_000,), (500,), tokens, 1.15, BODIES, syncs=2),
     Row("commands", "each kind of command", "acts", (5,), (5,), commands, syncs=2),
     # PERFORMANCE: "opening 20,000 puts and 20,000 acts, processor time: 0.11 s".

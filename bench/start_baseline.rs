@@ -1,8 +1,8 @@
 //! Baseline for a start from a checkpoint: makes the records of a checkpoint in plain std Rust, and nothing else.
 //!
 //! It reads the buckets and the versions of their keys (docs/FORMATS.md, "The body of a checkpoint", parts 1 to 4) into
-//! a `BTreeMap` for each bucket, which is collected in the order of the file, and drops them. It checks nothing, and
-//! keeps no uploads, sums, meters and counts.
+//! a `BTreeMap` for each bucket, which is collected in the order of the file, and drops them. It checks only UTF-8 and
+//! lengths, and keeps no rules, tariffs, uploads, sums, meters or counts.
 //!
 //! Build and run (no dependencies):
 //!     rustc --edition 2021 -C opt-level=3 -o start_baseline start_baseline.rs

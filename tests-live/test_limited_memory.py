@@ -136,7 +136,7 @@ class Limited(live.Case):
 
     def test_the_limit_of_the_unit(self):
         """Four of the costliest requests at once, with the workers and the limit of the unit: the versions of a key with great tags, which are copied
-        for each reply. No client reads on behind the status until each has one."""
+        for each reply. No client reads past its status before each has one."""
         path = self.new_folder("served") / "office-data" / "journal"
         (path.parent / "check.0").unlink(missing_ok=True)
         path.write_bytes(great_versions(12_000))

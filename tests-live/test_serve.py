@@ -131,8 +131,8 @@ class Serve(live.Case):
             self.check("the status once each served its connections", 0, server.process.wait(LIMIT))
 
     def test_versions_of_a_key(self):
-        """The reply that shows the versions of a key: each version that was put, the newest first, below and above the 32 from which on it is printed
-        in pieces, with tags that are small and that are as great as can be."""
+        """The reply that shows the versions of a key: each version that was put, the newest first, below and above the 32 up to which it is printed
+        whole, with tags that are small and that are as great as can be."""
         put, marks = [], "\x01\"k\u00e9\U00010000"
         with Server(self.program, self.folder / "served") as server, server.client() as client:
             client.ask(request("PUT", "/buckets/long"))

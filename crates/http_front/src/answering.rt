@@ -111,7 +111,7 @@ fn say_whole<W: Replies>(alloc: Global, out: &mut W, acked: &Acked) -> Result<()
     }
 }
 
-// Says the pieces of an answer, and tells it.
+// Says the pieces of the reply of an answer, and tells the answer.
 fn say_pieces<W: Replies>(
     out: &mut W,
     acked: &Acked,
@@ -129,7 +129,7 @@ fn say_pieces<W: Replies>(
     ensures quiet { OnOk result (W.faults out.new ≡ W.faults out.old) }
 {
     'pieces: while let Some(size) = pieces.next(room) {
-        out.say_part(&room[..size])?;
+        out.say_part(acked, &room[..size])?;
     }
     out.told(acked)
 }
@@ -159,7 +159,7 @@ fn say_stack<W: Replies>(
     }
 }
 
-// Says an answer that is not short: the versions of a key in pieces if there are many, and anything else at once.
+// Says an answer that is not short: the versions of a key in pieces if there are many, and anything else whole.
 fn say_long<W: Replies>(alloc: Global, out: &mut W, acked: &Acked) -> Result<(), SessionEnd>
     requires long { ¬ (IsShort acked.now.reply) }
     ensures said { IsSaid W.Replies out.old out.new (Ok acked.now) result }

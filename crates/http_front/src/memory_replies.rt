@@ -4,7 +4,7 @@ ghost use Rattle.std.specs.Bool.{Decides};
 ghost use Rattle.std.specs.List.{Contains};
 ghost use Rattle.office_base.specs.Faults.{Rose};
 ghost use Rattle.http_text.specs.Replies.{answer_text};
-ghost use Rattle.http_front.specs.Puts.{EndsWith, NotesLine};
+ghost use Rattle.http_front.specs.Puts.{EndsWith, IsPartOf, NotesLine};
 ghost use Rattle.http_front.specs.Texts.{bad_text_of};
 
 use crate::bad::Bad;
@@ -126,10 +126,12 @@ impl Replies for MemoryReplies {
         }
     }
 
-    fn say_part(&mut self, bytes: &[u8]) -> Result<(), Failed>
+    fn say_part(&mut self, acked: &Acked, bytes: &[u8]) -> Result<(), Failed>
+        requires { IsPartOf bytes.now (answer_text acked.now.reply) }
         ensures call { IsSinkCall self.old self.new
             (record (kept_of self.old) { said = (kept_of self.old).said ++ bytes.now }) result }
     {
+        let _ = acked;
         if self.fails() {
             return Err(self.fail());
         }

@@ -1,9 +1,9 @@
 // Where texts go.
-ghost use Rattle.std.specs.Prelude.{◌≡◌, ◌≤◌, ℕ, List, [], ◌∷◌, Option, OnOk, OnErr};
+ghost use Rattle.std.specs.Prelude.{◌≡◌, ◌≤◌, ℕ, List, [], ◌∷◌, Option, None, OnOk, OnErr};
 ghost use Rattle.std.specs.Io.KnownBytes.{Appends};
 ghost use Rattle.office_base.specs.Faults.{HasCause};
 ghost use Rattle.http_text.specs.Replies.{answer_text};
-ghost use Rattle.http_front.specs.Puts.{PutsOut, EndsWith, NotesLine};
+ghost use Rattle.http_front.specs.Puts.{PutsOut, EndsWith, IsPartOf, NotesLine};
 ghost use Rattle.http_front.specs.Texts.{bad_text_of};
 
 use crate::bad::Bad;
@@ -47,19 +47,21 @@ pub trait Replies {
     /// # Errors
     ///
     /// `Failed`: a front of the bytes may have gone out, and the count of faults rose.
-    fn say_part(&mut self, bytes: &[u8]) -> Result<(), Failed>
+    fn say_part(&mut self, acked: &Acked, bytes: &[u8]) -> Result<(), Failed>
+        requires { IsPartOf bytes.now (answer_text acked.now.reply) }
         ensures said { PutsOut (said self.old) (said self.new) bytes.now result }
+        ensures unknown { said self.old ≡ None → said self.new ≡ None }
         ensures moments { moments self.new ≡ moments self.old }
         ensures texts { texts self.new ≡ texts self.old }
         ensures noted { noted self.new ≡ noted self.old }
         ensures cause { HasCause (faults self.old) (faults self.new) result }
         ensures quiet { OnOk result (faults self.new ≡ faults self.old) };
 
-    /// Tells the answer whose reply was said in parts, as the last bytes that were said.
+    /// Adds the disk's moment of an answer whose reply was said in parts. The reply is the last that was said.
     ///
     /// # Errors
     ///
-    /// `Failed`: the answer was not told, and the count of faults rose.
+    /// `Failed`: the moment was not added, and the count of faults rose.
     fn told(&mut self, acked: &Acked) -> Result<(), Failed>
         requires { EndsWith (said self.old) (answer_text acked.now.reply) }
         ensures moments { OnOk result (Appends (moments self.old) (moments self.new) (acked.now.disk_moment ∷ [])) }

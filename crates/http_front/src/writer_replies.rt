@@ -5,7 +5,7 @@ ghost use Rattle.std.specs.Io.{WritesAtMost};
 ghost use Rattle.std.specs.Result.{IsErr};
 ghost use Rattle.office_base.specs.Faults.{HasCause, Rose};
 ghost use Rattle.http_text.specs.Replies.{answer_text};
-ghost use Rattle.http_front.specs.Puts.{PutsOut, EndsWith, NotesLine};
+ghost use Rattle.http_front.specs.Puts.{PutsOut, EndsWith, IsPartOf, NotesLine};
 ghost use Rattle.http_front.specs.Saying.{OnlySays};
 ghost use Rattle.http_front.specs.Texts.{bad_text_of};
 ghost use Rattle.http_front.specs.Writers.{notes_of, out_of};
@@ -124,7 +124,8 @@ impl<W: Write + Drop, N: Write + Drop> Replies for WriterReplies<W, N> {
         self.put(bytes)
     }
 
-    fn say_part(&mut self, bytes: &[u8]) -> Result<(), Failed>
+    fn say_part(&mut self, acked: &Acked, bytes: &[u8]) -> Result<(), Failed>
+        requires { IsPartOf bytes.now (answer_text acked.now.reply) }
         ensures written { PutsOut (W.contents (out_of self.old)) (W.contents (out_of self.new)) bytes.now result }
         ensures said { PutsOut (⟦<WriterReplies<W, N> as Replies>⟧.said self.old)
             (⟦<WriterReplies<W, N> as Replies>⟧.said self.new) bytes.now result }
@@ -132,6 +133,7 @@ impl<W: Write + Drop, N: Write + Drop> Replies for WriterReplies<W, N> {
             ≡ ⟦<WriterReplies<W, N> as Replies>⟧.moments self.old }
         ensures only_says { OnlySays ⟦<WriterReplies<W, N> as Replies>⟧ self.old self.new (IsErr result) }
     {
+        let _ = acked;
         self.put(bytes)
     }
 

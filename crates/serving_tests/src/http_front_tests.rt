@@ -730,17 +730,6 @@ fn failing_replies_are_counted_together(rt: HostRuntime) -> Result<(), Fail> {
     Ok(())
 }
 
-#[test]
-fn a_part_of_a_reply_fails(rt: HostRuntime) -> Result<(), Fail> {
-    let alloc = rt.alloc();
-    let mut out = MemoryReplies::new(alloc, [2].to_vec(alloc)?);
-    assert!(rt; out.say_part(b"HTTP").is_ok());
-    assert!(rt; out.say_part(b"/1.1").is_err());
-    assert!(rt; out.say_part(b"/2").is_ok());
-    assert!(rt; out.said() == b"HTTP/2".as_slice());
-    Ok(())
-}
-
 fn submitted(desk: &mut Desk<MemoryDisk, ListClock>, ask: &Ask) -> Result<Acked, Fail> {
     match desk.submit(ask) {
         Ok(acked) => Ok(acked),

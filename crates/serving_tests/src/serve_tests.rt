@@ -128,8 +128,8 @@ impl<'a> Replies for FlagReplies<'a> {
         said
     }
 
-    fn say_part(&mut self, bytes: &[u8]) -> Result<(), Failed> {
-        self.inner.say_part(bytes)
+    fn say_part(&mut self, acked: &Acked, bytes: &[u8]) -> Result<(), Failed> {
+        self.inner.say_part(acked, bytes)
     }
 
     fn told(&mut self, acked: &Acked) -> Result<(), Failed> {

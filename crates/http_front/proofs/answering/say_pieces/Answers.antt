@@ -15,6 +15,7 @@ pieces-preserved g c =
     (answer_text c.args.acked.now.reply) before.said.1 c.in-Some.ensures.text before.said.2 ok.said in
     record {
       said = (before.said.0 ++ piece, more.0, more.1);
+      unknown = λ none. ok.unknown (before.unknown none);
       moments = ok.moments ∙ before.moments;
       texts = ok.texts ∙ before.texts;
       noted = ok.noted ∙ before.noted;
