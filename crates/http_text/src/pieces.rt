@@ -1,9 +1,9 @@
 // The reply that shows the versions of a key, in pieces.
 ghost use Rattle.std.specs.Prelude.{◌≡◌, ◌⊎◌, ◌<◌, ◌≤◌, ◌+◌, ◌++◌, ℕ, List, [], length, take, drop};
-ghost use Rattle.std.specs.Prelude.{MatchOption, IfSome, OnSome, Ok};
+ghost use Rattle.std.specs.Prelude.{◌-◌, ◌^◌, MatchOption, IfSome, IfNone, OnSome, Ok};
 ghost use Rattle.office_types.specs.declared.reply.Reply.TheVariants.{StackShown};
 ghost use Rattle.http_text.specs.Pieces.{first_text, later_text, rest_text, front_text, pieces_left, pieces_count, left_count, Begins};
-ghost use Rattle.http_text.specs.Replies.{answer_text, head_text};
+ghost use Rattle.http_text.specs.Replies.{answer_text, body_text, head_text};
 ghost use Rattle.http_text.specs.Room.{Puts};
 
 use crate::members::put_moment;
@@ -93,11 +93,12 @@ fn put_some<'a>(room: &mut [u8], at: usize, versions: &'a [Version]) -> (usize, 
 }
 
 impl<'a> StackPieces<'a> {
-    /// Makes the pieces of the reply that shows the versions of a key. None if the reply has 2^64 - 1 bytes or more.
+    /// Makes the pieces of the reply that shows the versions of a key. None if its body has 2^64 - 1 bytes or more.
     ///
     /// Cost: one pass over the versions; no memory.
     pub fn new(key: &'a Key, stack: &'a Stack) -> Option<StackPieces<'a>>
-        ensures { IfSome result (λ pieces. pieces_left pieces ≡ answer_text (Ok (StackShown key.now stack.now))) }
+        ensures text { IfSome result (λ pieces. pieces_left pieces ≡ answer_text (Ok (StackShown key.now stack.now))) }
+        ensures none { IfNone result (2 ^ 64 - 1 ≤ length (body_text (Ok (StackShown key.now stack.now)))) }
     {
         let size = put_stack(&mut [], 0, key, stack);
         if size == usize::MAX {
