@@ -1,7 +1,9 @@
 -- The prices of a table, class by class.
-use Rattle.std.proofs.Common.{◌≡◌, ◌∙◌, ap, refl, ℕ, pos, negsuc, ◌+◌, ◌<◌, Bool, true, false, cond, List, [], ◌∷◌, ◌++◌, length, get_or, drop}
+use Rattle.std.proofs.Common.{◌≡◌, ◌∙◌, ap, ap₂, refl, ℕ, zero, suc, ◌&&◌, pos, negsuc, ◌+◌, ◌<◌, Bool, true, false, cond, List, [], ◌∷◌, ◌++◌, length, get_or, drop}
 use Rattle.std.proofs.Common.{Option, Some, None, Result, Ok, Err, ok_or, arith, append-nil}
 use Rattle.std.proofs.lemmas.List.{drop_more, drop_all}
+use Rattle.std.proofs.lemmas.Bool.{and_parts}
+use Rattle.std.proofs.Math.ListN.{set}
 use Rattle.std.specs.List.{list_all}
 use Rattle.toml.specs.Data.{Data, string, integer, float, boolean, datetime, array, table, Members, get_member}
 use Rattle.class_rules.specs.Classes.{class_name}
@@ -77,3 +79,10 @@ pub prices_range : (t : TariffTable) (ms : Members) (classes : List Class) (ps :
 prices_range t ms [] ps is = let same : [] ≡ ps = cc in rw (← same) refl
 prices_range t ms (class ∷ classes) ps is =
     range_on (price_in t ms class) (each_of (price_in t ms) classes) ps (price_at_range t class (get_member (class_name class) ms)) (prices_range t ms classes) is
+
+-- a price in place of another one
+pub prices_set : (ps : List ℕ) (i p : ℕ) → list_all is_price ps ≡ true → is_price p ≡ true → list_all is_price (set ps i p) ≡ true
+prices_set [] i p are is = are
+prices_set (q ∷ ps) zero p are is = ap₂ (λ a b. a && b) is (and_parts (is_price q) (list_all is_price ps) are).1
+prices_set (q ∷ ps) (suc i) p are is =
+    let parts = and_parts (is_price q) (list_all is_price ps) are in ap₂ (λ a b. a && b) parts.0 (prices_set ps i p parts.1 is)

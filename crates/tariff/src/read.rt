@@ -1,18 +1,20 @@
 // Reading tariffs from TOML documents.
-ghost use Rattle.std.specs.Prelude.{◌≡◌, ℕ, length, Option, option_and_then, is_some, unwrap_or, IfOk};
+ghost use Rattle.std.specs.Prelude.{◌≡◌, ℕ, true, length, Option, option_and_then, is_some, unwrap_or, IfOk};
 ghost use Rattle.toml.specs.Data.{Data, Members, no_members, string, as_table, get_member};
 ghost use Rattle.toml_rows.specs.Reading.{data_at};
 ghost use Rattle.toml_rows.specs.Rows.{row_of, Row};
 ghost use Rattle.toml_rows.specs.Documents.{IsTable};
 ghost use Rattle.toml_rows.specs.Walking.{Says, knows, first_unknown};
+ghost use Rattle.std.specs.List.{list_all};
 ghost use Rattle.tariff.specs.Faults.{TariffGives};
+ghost use Rattle.tariff.specs.Prices.{is_price};
 ghost use Rattle.tariff.specs.Opened.{ReadsDocument, IsOpened, is_there};
 ghost use Rattle.tariff.specs.Reading.{table_name, classes_of, with_fields, with_classes, unless_other, from_name, from_of, month_said, tariff_of};
 ghost use Rattle.tariff.specs.Reading.{price_in, each_of, tiers_in};
 ghost use Rattle.tariff.specs.Opened.{tariff_in};
 
 use crate::fault::{TariffFault, TariffTable, unknown};
-use crate::prices::{Tariff, are_all_prices};
+use crate::prices::Tariff;
 use crate::tier::{price_of, tiers_of};
 use crate::tiers::Tiers;
 use class_rules::Class;
@@ -274,8 +276,9 @@ fn read_price(
     number: u32,
     class: Class,
 ) -> Result<u32, TariffFault>
-    ensures { (depth : ℕ) (ms : Members) → IsTable depth (row_of keys.now) number ms
+    ensures value { (depth : ℕ) (ms : Members) → IsTable depth (row_of keys.now) number ms
         → TariffGives (λ price. price) result (price_in table ms class) }
+    ensures range { IfOk result (λ price. is_price price ≡ true) }
 {
     match keys.get(number, class.name().as_bytes()) {
         Some(found) => match price_of(alloc, found)? {
@@ -295,8 +298,9 @@ fn read_prices(
     prices: &mut [u32],
 ) -> Result<(), TariffFault>
     requires { length prices.old ≡ length (classes_of table) }
-    ensures { (depth : ℕ) (ms : Members) → IsTable depth (row_of keys.now) number ms
+    ensures value { (depth : ℕ) (ms : Members) → IsTable depth (row_of keys.now) number ms
         → TariffGives (λ _. prices.new) result (each_of (price_in table ms) (classes_of table)) }
+    ensures range { list_all is_price prices.old ≡ true → list_all is_price prices.new ≡ true }
 {
     for (place, class) in table.classes().iter().enumerate() {
         prices[place] = read_price(alloc, table, keys, number, *class)?;
@@ -394,8 +398,9 @@ fn prices_opened(
     prices: &mut [u32],
 ) -> Result<(), TariffFault>
     requires { length prices.old ≡ length (classes_of table) }
-    ensures { (o : Option Members) → IsOpened (row_of document.now) opened.now o
+    ensures value { (o : Option Members) → IsOpened (row_of document.now) opened.now o
         → TariffGives (λ _. prices.new) result (each_of (price_in table (unwrap_or o no_members)) (classes_of table)) }
+    ensures range { list_all is_price prices.old ≡ true → list_all is_price prices.new ≡ true }
 {
     match opened {
         Opened::Inside(number) => {
@@ -433,10 +438,6 @@ fn read_tariff(alloc: Global, document: &Keys) -> Result<Tariff, TariffFault>
         &transition,
         &mut moved,
     )?;
-    // Never: each price was read in range.
-    if !are_all_prices(&moved) {
-        return Err(TariffFault::NoMemory);
-    }
     Ok(Tariff {
         from,
         storage: stored,

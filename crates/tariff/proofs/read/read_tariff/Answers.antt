@@ -101,7 +101,7 @@ returns-in_err-prices_opened c ms is =
     let c5 : with_tables c.in_ok-from.from (unwrap_or o_s no_members) (unwrap_or o_t no_members) ≡ with_stored c.in_ok-from.from (unwrap_or o_t no_members) c.in_ok-stored.stored = ap (λ r. r >>= with_stored c.in_ok-from.from (unwrap_or o_t no_members)) (c.in_ok-stored.ensures o_s s_is) in
     let fault = c.in_err-prices_opened.field-0.0 in
     let err : c.from_residual-in_err-prices_opened.result ≡ Err fault = search rules in
-    rw err (told_on (tariff_flaw_of fault) (each_of (price_in Transition (unwrap_or o_t no_members)) (classes_of Transition)) (tariff_in ms) (λ flaw e. c1 ∙ c2 ∙ c3 ∙ c4 ∙ c5 ∙ ap (λ r. r >>= λ ps. Ok (record { from = c.in_ok-from.from; storage = c.in_ok-stored.stored; transition = ps })) e) (c.in_err-prices_opened.ensures o_t t_is))
+    rw err (told_on (tariff_flaw_of fault) (each_of (price_in Transition (unwrap_or o_t no_members)) (classes_of Transition)) (tariff_in ms) (λ flaw e. c1 ∙ c2 ∙ c3 ∙ c4 ∙ c5 ∙ ap (λ r. r >>= λ ps. Ok (record { from = c.in_ok-from.from; storage = c.in_ok-stored.stored; transition = ps })) e) (c.in_err-prices_opened.ensures.value o_t t_is))
 
 pub returns : goal.returns
 returns c ms is =
@@ -117,4 +117,4 @@ returns c ms is =
     let c3 : with_month ms c.in_ok-from.from ≡ with_storage ms c.in_ok-from.from (unwrap_or o_s no_members) = ap (λ r. r >>= with_storage ms c.in_ok-from.from) (c.in_ok-check_opened.ensures o_s s_is) in
     let c4 : with_storage ms c.in_ok-from.from (unwrap_or o_s no_members) ≡ with_tables c.in_ok-from.from (unwrap_or o_s no_members) (unwrap_or o_t no_members) = ap (λ r. r >>= with_tables c.in_ok-from.from (unwrap_or o_s no_members)) (c.in_ok-check_opened-2.ensures o_t t_is) in
     let c5 : with_tables c.in_ok-from.from (unwrap_or o_s no_members) (unwrap_or o_t no_members) ≡ with_stored c.in_ok-from.from (unwrap_or o_t no_members) c.in_ok-stored.stored = ap (λ r. r >>= with_stored c.in_ok-from.from (unwrap_or o_t no_members)) (c.in_ok-stored.ensures o_s s_is) in
-    c1 ∙ c2 ∙ c3 ∙ c4 ∙ c5 ∙ ap (λ r. r >>= λ ps. Ok (record { from = c.in_ok-from.from; storage = c.in_ok-stored.stored; transition = ps })) (c.in_ok-prices_opened.ensures o_t t_is)
+    c1 ∙ c2 ∙ c3 ∙ c4 ∙ c5 ∙ ap (λ r. r >>= λ ps. Ok (record { from = c.in_ok-from.from; storage = c.in_ok-stored.stored; transition = ps })) (c.in_ok-prices_opened.ensures.value o_t t_is)
