@@ -453,6 +453,7 @@ const NUMBERS: [([u64; 3], bool); 5] = [
 fn stacks_of_markers(rt: HostRuntime) {
     for (numbers, is_some) in &NUMBERS {
         let stack = Stack::of(day(&rt, 1), markers(&rt, rt.alloc(), numbers));
+        let stack = stack.expect(&rt, "memory");
         equal(&rt, numbers, &stack.is_some(), is_some);
     }
 }
@@ -466,7 +467,7 @@ fn stacks_of_a_marker(rt: HostRuntime) {
     for (created, ceased, changed, is_some) in &DAYS {
         let marker = marker(1, day(&rt, *created), day(&rt, *ceased));
         let versions = vec![in rt.alloc(); marker].expect(&rt, "memory");
-        let stack = Stack::of(day(&rt, *changed), versions);
+        let stack = Stack::of(day(&rt, *changed), versions).expect(&rt, "memory");
         equal(
             &rt,
             &(*created, *ceased, *changed),
@@ -488,5 +489,6 @@ fn no_stack_of_an_early_object(rt: HostRuntime) {
         entered: day(&rt, 1),
     };
     let versions = vec![in rt.alloc(); early].expect(&rt, "memory");
-    assert!(rt; Stack::of(later, versions).is_none());
+    let stack = Stack::of(later, versions).expect(&rt, "memory");
+    assert!(rt; stack.is_none());
 }

@@ -527,7 +527,8 @@ fn two_versions(rt: &impl Abort, alloc: Global) -> Stack {
         ceased: moment(rt, 1_704_153_600_000),
     };
     let versions = vec![in alloc; object(rt, alloc), marker].expect(rt, "memory");
-    Stack::of(moment(rt, 1_704_153_600_000), versions).expect(rt, "a stack")
+    let stack = Stack::of(moment(rt, 1_704_153_600_000), versions).expect(rt, "memory");
+    stack.expect(rt, "a stack")
 }
 
 const VERSIONS: &str = "{\"changed\":\"2024-01-02T00:00:00.000Z\",\"key\":\"a\",\"versions\":[\
