@@ -478,17 +478,27 @@ fn stacks_of_a_marker(rt: HostRuntime) {
 }
 
 // An object that entered its class the day before it was created.
-#[test]
-fn no_stack_of_an_early_object(rt: HostRuntime) {
-    let later = day(&rt, 2);
+fn early(rt: &impl Abort, alloc: Global) -> Version {
+    let later = day(rt, 2);
     let mut early = marker(1, later, later);
     early.kind = Kind::Object {
-        size: size(&rt, 1),
+        size: size(rt, 1),
         class: Class::Standard,
-        tags: tags(&rt, rt.alloc(), &[]),
-        entered: day(&rt, 1),
+        tags: tags(rt, alloc, &[]),
+        entered: day(rt, 1),
     };
-    let versions = vec![in rt.alloc(); early].expect(&rt, "memory");
-    let stack = Stack::of(later, versions).expect(&rt, "memory");
+    early
+}
+
+#[test]
+fn no_stack_of_an_early_object(rt: HostRuntime) {
+    let versions = vec![in rt.alloc(); early(&rt, rt.alloc())].expect(&rt, "memory");
+    let stack = Stack::of(day(&rt, 2), versions).expect(&rt, "memory");
     assert!(rt; stack.is_none());
+}
+
+#[test]
+fn no_stack_of_one_early_object(rt: HostRuntime) {
+    let stack = Stack::of_one(rt.alloc(), day(&rt, 2), early(&rt, rt.alloc()));
+    assert!(rt; stack.expect(&rt, "memory").is_none());
 }
