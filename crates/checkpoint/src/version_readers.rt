@@ -142,7 +142,7 @@ impl Spelled for (Key, Stack) {
         let Some((versions, rest)) = list_in(alloc, rest)? else {
             return Ok(None);
         };
-        match Stack::of(changed, versions) {
+        match Stack::of(changed, versions)? {
             Some(stack) => Ok(Some(((key, stack), rest))),
             None => Ok(None),
         }
