@@ -93,7 +93,7 @@ fn open<'s>(alloc: Global, document: &Keys<'s>, name: &str) -> Result<Opened<'s>
     ensures { IfOk result (λ opened. (ms : Members) → IsTable 80 (row_of document.now) 0 ms
         → IsOpened (row_of document.now) opened (option_and_then as_table (get_member name.now ms))) }
 {
-    match document.get(0, name.as_bytes()) {
+    match document.get(0, name) {
         Some(found) => {
             let opened = open_found(alloc, found)?;
             Ok(opened)
@@ -140,11 +140,7 @@ fn refuse_unknown(alloc: Global, keys: &Keys, table: u32, known: &[&str]) -> Res
         → TariffGives (λ _. ms) result (unless_other ms (first_unknown (knows known.now) ms)) }
 {
     match keys.first_unknown(table, known) {
-        Some(name) => match std::str::from_utf8(name) {
-            Ok(name) => unknown(alloc, name),
-            // Never: a name is text.
-            Err(_) => Err(TariffFault::NoMemory),
-        },
+        Some(name) => unknown(alloc, name),
         None => Ok(()),
     }
 }
@@ -247,7 +243,7 @@ fn read_from(alloc: Global, document: &Keys) -> Result<Month, TariffFault>
     ensures { (ms : Members) → IsTable 80 (row_of document.now) 0 ms
         → TariffGives (λ month. month) result (from_of (get_member from_name ms)) }
 {
-    match document.get(0, "from".as_bytes()) {
+    match document.get(0, "from") {
         Some(found) => match month_of(alloc, found)? {
             Some(month) => Ok(month),
             None => Err(TariffFault::BadFrom),
@@ -280,7 +276,7 @@ fn read_price(
         → TariffGives (λ price. price) result (price_in table ms class) }
     ensures range { IfOk result (λ price. is_price price ≡ true) }
 {
-    match keys.get(number, class.name().as_bytes()) {
+    match keys.get(number, class.name()) {
         Some(found) => match price_of(alloc, found)? {
             Some(price) => Ok(price),
             None => Err(TariffFault::BadPrice { table, class }),
@@ -319,7 +315,7 @@ fn read_tiers(
     ensures { (ms : Members) → IsTable depth (row_of keys.now) number ms
         → TariffGives (λ tiers. tiers) result (tiers_in ms class) }
 {
-    match keys.get(number, class.name().as_bytes()) {
+    match keys.get(number, class.name()) {
         Some(found) => {
             let tiers = tiers_of(alloc, class, keys, found, depth)?;
             Ok(tiers)

@@ -135,8 +135,8 @@ fn known_tier(alloc: Global, keys: &Keys, table: u32) -> Result<Option<Tier>, Al
     ensures { IfOk result (λ tier. (depth : ℕ) (ms : Members) → IsTable depth (row_of keys.now) table ms
         → tier ≡ tier_by (get_member (codes "price") ms) (end_said (get_member (codes "upto") ms))) }
 {
-    let price = keys.get(table, "price".as_bytes());
-    let upto = keys.get(table, "upto".as_bytes());
+    let price = keys.get(table, "price");
+    let upto = keys.get(table, "upto");
     let end = end_said(alloc, upto)?;
     let tier = tier_by(alloc, price, end)?;
     Ok(tier)

@@ -5,7 +5,8 @@ use Rattle.office_base.specs.Results.{◌>>=◌}
 use Rattle.office_base.proofs.Results.{told_on}
 use Rattle.tariff.specs.declared.fault.TariffTable.TheVariants.{Storage, Transition}
 use Rattle.tariff.specs.Faults.{tariff_flaw_of}
-use Rattle.tariff.specs.Opened.{tariff_in, with_document, with_month, with_storage, with_tables, with_stored}
+use Rattle.tariff.specs.Opened.{tariff_in}
+use Rattle.tariff.proofs.TariffSteps.{with_document, with_month, with_storage, with_tables, with_stored}
 use Rattle.tariff.specs.Reading.{table_name, from_name, from_of, with_fields, with_classes, each_of, tiers_in, price_in, classes_of}
 use Rattle.tariff.proofs.RowReading.{there_is}
 use Rattle.tariff.proofs.read.read_tariff.Goals as goal
