@@ -1,5 +1,6 @@
 // Copies the records of a bucket.
-ghost use Rattle.std.specs.Prelude.{◌≡◌, IfOk};
+ghost use Rattle.std.specs.Prelude.{◌≡◌, IfOk, OnOk};
+ghost use Rattle.std.specs.BTreeMap.{insert_entry};
 ghost use Rattle.std.specs.Ordering.{nat_cmp};
 ghost use Rattle.office_base.specs.Maps.{bytes_cmp, Rises};
 
@@ -21,6 +22,14 @@ fn copy_rules(rules: &Option<RuleSet>) -> Result<Option<RuleSet>, AllocError>
     }
 }
 
+// Adds a copy of a key and its stack.
+fn add_copy(copies: &mut BTreeMap<Key, Stack>, key: &Key, stack: &Stack) -> Result<(), AllocError>
+    ensures { OnOk result (copies.new.entries ≡ insert_entry bytes_cmp copies.old.entries key.now stack.now) }
+{
+    copies.insert(key.copy()?, stack.copy()?)?;
+    Ok(())
+}
+
 fn copy_stacks(
     alloc: Global,
     stacks: &BTreeMap<Key, Stack>,
@@ -30,7 +39,7 @@ fn copy_stacks(
 {
     let mut copies = BTreeMap::new(alloc);
     for (key, stack) in stacks.iter() {
-        copies.insert(key.copy()?, stack.copy()?)?;
+        add_copy(&mut copies, key, stack)?;
     }
     Ok(copies)
 }

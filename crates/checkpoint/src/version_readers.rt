@@ -1,13 +1,16 @@
 // Reads versions and stacks.
-ghost use Rattle.std.specs.Prelude.{◌≡◌, option_map};
+ghost use Rattle.std.specs.Prelude.{◌≡◌, IfOk, IfSome, option_map};
+ghost use Rattle.stacks.specs.Stacks.{is_stack};
+ghost use Rattle.entry_codec.specs.Formats.{◌such_that◌};
 ghost use Rattle.entry_codec.specs.Reading.{Finds};
+ghost use Rattle.checkpoint.specs.Combining.{exactly};
 ghost use Rattle.checkpoint.specs.Parts.{object_of, object_or_none, object_format, version_head};
 ghost use Rattle.checkpoint.specs.Parts.{version_format, stack_format};
 
 use crate::field_readers::{class_in, flag_in, id_in, key_in, size_in};
-use crate::spelled::{Spelled, list_in};
+use crate::spelled::{Spelled, items_in};
 use class_rules::Class;
-use entry_codec::{moment_in, tags_in};
+use entry_codec::{moment_in, tags_in, u32_in};
 use moments::Moment;
 use office_base::{Key, NoMemory, Size, Tags, VersionId};
 use stacks::{Kind, Stack, Version};
@@ -128,10 +131,40 @@ impl Spelled for Version {
     }
 }
 
+// This many versions, newest first, as a stack that changed last at this moment. A version of its own goes into the
+// stack without a list.
+#[tactic(auto, unfolding(entry_codec::specs::Formats::front_items))]
+fn versions_in(
+    alloc: Global,
+    changed: Moment,
+    count: usize,
+    bytes: &[u8],
+) -> Result<Option<(Stack, &[u8])>, NoMemory>
+    ensures versions { Finds (λ x. (x.0.versions, x.1.now)) result
+        ((exactly count version_format such_that is_stack changed).front bytes.now) }
+    ensures changed { IfOk result (λ found. IfSome found (λ x. x.0.changed ≡ changed)) }
+{
+    let (stack, rest) = if count == 1 {
+        let Some((version, rest)) = Version::read(alloc, bytes)? else {
+            return Ok(None);
+        };
+        (Stack::of_one(alloc, changed, version)?, rest)
+    } else {
+        let Some((versions, rest)) = items_in(alloc, count, bytes)? else {
+            return Ok(None);
+        };
+        (Stack::of(changed, versions)?, rest)
+    };
+    match stack {
+        Some(stack) => Ok(Some((stack, rest))),
+        None => Ok(None),
+    }
+}
+
 impl Spelled for (Key, Stack) {
     ghost format = { stack_format };
 
-    #[tactic(auto, unfolding(crate::specs::Parts::stack_format))]
+    #[tactic(auto, unfolding(crate::specs::Parts::stack_format, crate::specs::Parts::four))]
     fn read(alloc: Global, bytes: &[u8]) -> Result<Option<((Key, Stack), &[u8])>, NoMemory> {
         let Some((key, rest)) = key_in(alloc, bytes)? else {
             return Ok(None);
@@ -139,11 +172,11 @@ impl Spelled for (Key, Stack) {
         let Some((changed, rest)) = moment_in(rest) else {
             return Ok(None);
         };
-        let Some((versions, rest)) = list_in(alloc, rest)? else {
+        let Some((count, rest)) = u32_in(rest) else {
             return Ok(None);
         };
-        match Stack::of(changed, versions) {
-            Some(stack) => Ok(Some(((key, stack), rest))),
+        match versions_in(alloc, changed, count as usize, rest)? {
+            Some((stack, rest)) => Ok(Some(((key, stack), rest))),
             None => Ok(None),
         }
     }

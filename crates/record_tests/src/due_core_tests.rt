@@ -65,7 +65,8 @@ fn stack(rt: &impl Abort, alloc: Global, row: &Row, put: Moment) -> Stack {
         };
         versions.push(version).expect(rt, "memory");
     }
-    Stack::of(put, versions).expect(rt, "a stack")
+    let stack = Stack::of(put, versions).expect(rt, "memory");
+    stack.expect(rt, "a stack")
 }
 
 // A rule that asks only for this.

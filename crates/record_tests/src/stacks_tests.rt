@@ -453,6 +453,7 @@ const NUMBERS: [([u64; 3], bool); 5] = [
 fn stacks_of_markers(rt: HostRuntime) {
     for (numbers, is_some) in &NUMBERS {
         let stack = Stack::of(day(&rt, 1), markers(&rt, rt.alloc(), numbers));
+        let stack = stack.expect(&rt, "memory");
         equal(&rt, numbers, &stack.is_some(), is_some);
     }
 }
@@ -466,7 +467,7 @@ fn stacks_of_a_marker(rt: HostRuntime) {
     for (created, ceased, changed, is_some) in &DAYS {
         let marker = marker(1, day(&rt, *created), day(&rt, *ceased));
         let versions = vec![in rt.alloc(); marker].expect(&rt, "memory");
-        let stack = Stack::of(day(&rt, *changed), versions);
+        let stack = Stack::of(day(&rt, *changed), versions).expect(&rt, "memory");
         equal(
             &rt,
             &(*created, *ceased, *changed),
@@ -477,16 +478,27 @@ fn stacks_of_a_marker(rt: HostRuntime) {
 }
 
 // An object that entered its class the day before it was created.
-#[test]
-fn no_stack_of_an_early_object(rt: HostRuntime) {
-    let later = day(&rt, 2);
+fn early(rt: &impl Abort, alloc: Global) -> Version {
+    let later = day(rt, 2);
     let mut early = marker(1, later, later);
     early.kind = Kind::Object {
-        size: size(&rt, 1),
+        size: size(rt, 1),
         class: Class::Standard,
-        tags: tags(&rt, rt.alloc(), &[]),
-        entered: day(&rt, 1),
+        tags: tags(rt, alloc, &[]),
+        entered: day(rt, 1),
     };
-    let versions = vec![in rt.alloc(); early].expect(&rt, "memory");
-    assert!(rt; Stack::of(later, versions).is_none());
+    early
+}
+
+#[test]
+fn no_stack_of_an_early_object(rt: HostRuntime) {
+    let versions = vec![in rt.alloc(); early(&rt, rt.alloc())].expect(&rt, "memory");
+    let stack = Stack::of(day(&rt, 2), versions).expect(&rt, "memory");
+    assert!(rt; stack.is_none());
+}
+
+#[test]
+fn no_stack_of_one_early_object(rt: HostRuntime) {
+    let stack = Stack::of_one(rt.alloc(), day(&rt, 2), early(&rt, rt.alloc()));
+    assert!(rt; stack.expect(&rt, "memory").is_none());
 }

@@ -1,7 +1,9 @@
 -- The prices of a table, class by class.
-use Rattle.std.proofs.Common.{◌≡◌, ◌∙◌, ap, refl, ℕ, pos, negsuc, ◌+◌, ◌<◌, Bool, true, false, cond, List, [], ◌∷◌, ◌++◌, length, get_or, drop}
+use Rattle.std.proofs.Common.{◌≡◌, ◌∙◌, ap, ap₂, refl, ℕ, zero, suc, ◌&&◌, pos, negsuc, ◌+◌, ◌<◌, Bool, true, false, cond, List, [], ◌∷◌, ◌++◌, length, get_or, drop}
 use Rattle.std.proofs.Common.{Option, Some, None, Result, Ok, Err, ok_or, arith, append-nil}
 use Rattle.std.proofs.lemmas.List.{drop_more, drop_all}
+use Rattle.std.proofs.lemmas.Bool.{and_parts}
+use Rattle.std.proofs.Math.ListN.{set}
 use Rattle.std.specs.List.{list_all}
 use Rattle.toml.specs.Data.{Data, string, integer, float, boolean, datetime, array, table, Members, get_member}
 use Rattle.class_rules.specs.Classes.{class_name}
@@ -44,36 +46,9 @@ pub passed_on : {X Y X' Y' : Type 0} (see : X → Y) (see' : X' → Y') (fault :
     → ((flaw : TariffFlaw) → part ≡ Err flaw → whole ≡ Err flaw) → TariffGives see (Err fault) part → TariffGives see' (Err fault) whole
 passed_on see see' fault part whole pass is = told_on (tariff_flaw_of fault) part whole pass is
 
-in_range : (b : Bool) (p q : ℕ) → is_price p ≡ b → cond b (Some p) None ≡ Some q → is_price q ≡ true
-in_range true p q ok is = let same : p ≡ q = cc in rw (← same) ok
-in_range false p q ok is = absurd cc
-
-pub price_of_range : (d : Data) (q : ℕ) → price_of d ≡ Some q → is_price q ≡ true
-price_of_range (integer (pos p)) q is = in_range (is_price p) p q refl is
-price_of_range (integer (negsuc p)) q is = absurd cc
-price_of_range (string s) q is = absurd cc
-price_of_range (float x) q is = absurd cc
-price_of_range (boolean b) q is = absurd cc
-price_of_range (datetime dt) q is = absurd cc
-price_of_range (array ds) q is = absurd cc
-price_of_range (table ms) q is = absurd cc
-
-price_or_range : (o : Option ℕ) (d : Data) (flaw : TariffFlaw) (q : ℕ) → price_of d ≡ o → ok_or o flaw ≡ Ok q → is_price q ≡ true
-price_or_range (Some p) d flaw q found is = let same : p ≡ q = cc in price_of_range d q (found ∙ ap Some same)
-price_or_range None d flaw q found is = absurd cc
-
-price_at_range : (t : TariffTable) (class : Class) (o : Option Data) (q : ℕ) → price_at t class o ≡ Ok q → is_price q ≡ true
-price_at_range t class None q is = absurd cc
-price_at_range t class (Some d) q is = price_or_range (price_of d) d (bad_price t class) q refl is
-
-range_on : (one : Result ℕ TariffFlaw) (rest : Result (List ℕ) TariffFlaw) (ps : List ℕ) → ((q : ℕ) → one ≡ Ok q → is_price q ≡ true)
-    → ((qs : List ℕ) → rest ≡ Ok qs → list_all is_price qs ≡ true) → (one >>= λ price. rest >>= λ prices. Ok (price ∷ prices)) ≡ Ok ps → list_all is_price ps ≡ true
-range_on (Ok q) (Ok qs) ps first later is = let same : q ∷ qs ≡ ps = cc in rw (← same, first q refl, later qs refl) refl
-range_on (Ok q) (Err flaw) ps first later is = absurd cc
-range_on (Err flaw) rest ps first later is = absurd cc
-
--- prices that were read are in range
-pub prices_range : (t : TariffTable) (ms : Members) (classes : List Class) (ps : List ℕ) → each_of (price_in t ms) classes ≡ Ok ps → list_all is_price ps ≡ true
-prices_range t ms [] ps is = let same : [] ≡ ps = cc in rw (← same) refl
-prices_range t ms (class ∷ classes) ps is =
-    range_on (price_in t ms class) (each_of (price_in t ms) classes) ps (price_at_range t class (get_member (class_name class) ms)) (prices_range t ms classes) is
+-- a price in place of another one
+pub prices_set : (ps : List ℕ) (i p : ℕ) → list_all is_price ps ≡ true → is_price p ≡ true → list_all is_price (set ps i p) ≡ true
+prices_set [] i p are is = are
+prices_set (q ∷ ps) zero p are is = ap₂ (λ a b. a && b) is (and_parts (is_price q) (list_all is_price ps) are).1
+prices_set (q ∷ ps) (suc i) p are is =
+    let parts = and_parts (is_price q) (list_all is_price ps) are in ap₂ (λ a b. a && b) parts.0 (prices_set ps i p parts.1 is)

@@ -48,23 +48,13 @@ upto_by None = None
 abbrev pub one_at : Class → Option ℕ → Result (List Tier) TariffFlaw
 one_at class price = ok_or (option_map one_tier price) (bad_price Storage class)
 
--- the tariff of a document, step by step: after its prices of storage, its tables, its first month and its fields
-abbrev pub with_stored : ℕ → Members → List (List Tier) → Result Prices TariffFlaw
-with_stored from transition storage_tiers = do
+-- the tariff of a document, or its first fault
+abbrev pub tariff_in : Members → Result Prices TariffFlaw
+tariff_in read = do
+  document ← with_fields read
+  from ← from_of (get_member from_name document)
+  storage ← with_classes Storage (members_of Storage document)
+  transition ← with_classes Transition (members_of Transition document)
+  storage_tiers ← each_of (tiers_in storage) (classes_of Storage)
   transition_prices ← each_of (price_in Transition transition) (classes_of Transition)
   Ok (record { from = from; storage = storage_tiers; transition = transition_prices })
-
-abbrev pub with_tables : ℕ → Members → Members → Result Prices TariffFlaw
-with_tables from storage transition = each_of (tiers_in storage) (classes_of Storage) >>= with_stored from transition
-
-abbrev pub with_storage : Members → ℕ → Members → Result Prices TariffFlaw
-with_storage document from storage = with_classes Transition (members_of Transition document) >>= with_tables from storage
-
-abbrev pub with_month : Members → ℕ → Result Prices TariffFlaw
-with_month document from = with_classes Storage (members_of Storage document) >>= with_storage document from
-
-abbrev pub with_document : Members → Result Prices TariffFlaw
-with_document document = from_of (get_member from_name document) >>= with_month document
-
-abbrev pub tariff_in : Members → Result Prices TariffFlaw
-tariff_in read = with_fields read >>= with_document

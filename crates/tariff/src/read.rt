@@ -1,18 +1,20 @@
 // Reading tariffs from TOML documents.
-ghost use Rattle.std.specs.Prelude.{◌≡◌, ℕ, length, Option, option_and_then, is_some, unwrap_or, IfOk};
+ghost use Rattle.std.specs.Prelude.{◌≡◌, ℕ, true, length, Option, option_and_then, is_some, unwrap_or, IfOk};
 ghost use Rattle.toml.specs.Data.{Data, Members, no_members, string, as_table, get_member};
 ghost use Rattle.toml_rows.specs.Reading.{data_at};
 ghost use Rattle.toml_rows.specs.Rows.{row_of, Row};
 ghost use Rattle.toml_rows.specs.Documents.{IsTable};
 ghost use Rattle.toml_rows.specs.Walking.{Says, knows, first_unknown};
+ghost use Rattle.std.specs.List.{list_all};
 ghost use Rattle.tariff.specs.Faults.{TariffGives};
+ghost use Rattle.tariff.specs.Prices.{is_price};
 ghost use Rattle.tariff.specs.Opened.{ReadsDocument, IsOpened, is_there};
 ghost use Rattle.tariff.specs.Reading.{table_name, classes_of, with_fields, with_classes, unless_other, from_name, from_of, month_said, tariff_of};
 ghost use Rattle.tariff.specs.Reading.{price_in, each_of, tiers_in};
 ghost use Rattle.tariff.specs.Opened.{tariff_in};
 
 use crate::fault::{TariffFault, TariffTable, unknown};
-use crate::prices::{Tariff, are_all_prices};
+use crate::prices::Tariff;
 use crate::tier::{price_of, tiers_of};
 use crate::tiers::Tiers;
 use class_rules::Class;
@@ -91,7 +93,7 @@ fn open<'s>(alloc: Global, document: &Keys<'s>, name: &str) -> Result<Opened<'s>
     ensures { IfOk result (λ opened. (ms : Members) → IsTable 80 (row_of document.now) 0 ms
         → IsOpened (row_of document.now) opened (option_and_then as_table (get_member name.now ms))) }
 {
-    match document.get(0, name.as_bytes()) {
+    match document.get(0, name) {
         Some(found) => {
             let opened = open_found(alloc, found)?;
             Ok(opened)
@@ -138,11 +140,7 @@ fn refuse_unknown(alloc: Global, keys: &Keys, table: u32, known: &[&str]) -> Res
         → TariffGives (λ _. ms) result (unless_other ms (first_unknown (knows known.now) ms)) }
 {
     match keys.first_unknown(table, known) {
-        Some(name) => match std::str::from_utf8(name) {
-            Ok(name) => unknown(alloc, name),
-            // Never: a name is text.
-            Err(_) => Err(TariffFault::NoMemory),
-        },
+        Some(name) => unknown(alloc, name),
         None => Ok(()),
     }
 }
@@ -245,7 +243,7 @@ fn read_from(alloc: Global, document: &Keys) -> Result<Month, TariffFault>
     ensures { (ms : Members) → IsTable 80 (row_of document.now) 0 ms
         → TariffGives (λ month. month) result (from_of (get_member from_name ms)) }
 {
-    match document.get(0, "from".as_bytes()) {
+    match document.get(0, "from") {
         Some(found) => match month_of(alloc, found)? {
             Some(month) => Ok(month),
             None => Err(TariffFault::BadFrom),
@@ -274,10 +272,11 @@ fn read_price(
     number: u32,
     class: Class,
 ) -> Result<u32, TariffFault>
-    ensures { (depth : ℕ) (ms : Members) → IsTable depth (row_of keys.now) number ms
+    ensures value { (depth : ℕ) (ms : Members) → IsTable depth (row_of keys.now) number ms
         → TariffGives (λ price. price) result (price_in table ms class) }
+    ensures range { IfOk result (λ price. is_price price ≡ true) }
 {
-    match keys.get(number, class.name().as_bytes()) {
+    match keys.get(number, class.name()) {
         Some(found) => match price_of(alloc, found)? {
             Some(price) => Ok(price),
             None => Err(TariffFault::BadPrice { table, class }),
@@ -295,8 +294,9 @@ fn read_prices(
     prices: &mut [u32],
 ) -> Result<(), TariffFault>
     requires { length prices.old ≡ length (classes_of table) }
-    ensures { (depth : ℕ) (ms : Members) → IsTable depth (row_of keys.now) number ms
+    ensures value { (depth : ℕ) (ms : Members) → IsTable depth (row_of keys.now) number ms
         → TariffGives (λ _. prices.new) result (each_of (price_in table ms) (classes_of table)) }
+    ensures range { list_all is_price prices.old ≡ true → list_all is_price prices.new ≡ true }
 {
     for (place, class) in table.classes().iter().enumerate() {
         prices[place] = read_price(alloc, table, keys, number, *class)?;
@@ -315,7 +315,7 @@ fn read_tiers(
     ensures { (ms : Members) → IsTable depth (row_of keys.now) number ms
         → TariffGives (λ tiers. tiers) result (tiers_in ms class) }
 {
-    match keys.get(number, class.name().as_bytes()) {
+    match keys.get(number, class.name()) {
         Some(found) => {
             let tiers = tiers_of(alloc, class, keys, found, depth)?;
             Ok(tiers)
@@ -394,8 +394,9 @@ fn prices_opened(
     prices: &mut [u32],
 ) -> Result<(), TariffFault>
     requires { length prices.old ≡ length (classes_of table) }
-    ensures { (o : Option Members) → IsOpened (row_of document.now) opened.now o
+    ensures value { (o : Option Members) → IsOpened (row_of document.now) opened.now o
         → TariffGives (λ _. prices.new) result (each_of (price_in table (unwrap_or o no_members)) (classes_of table)) }
+    ensures range { list_all is_price prices.old ≡ true → list_all is_price prices.new ≡ true }
 {
     match opened {
         Opened::Inside(number) => {
@@ -433,10 +434,6 @@ fn read_tariff(alloc: Global, document: &Keys) -> Result<Tariff, TariffFault>
         &transition,
         &mut moved,
     )?;
-    // Never: each price was read in range.
-    if !are_all_prices(&moved) {
-        return Err(TariffFault::NoMemory);
-    }
     Ok(Tariff {
         from,
         storage: stored,

@@ -1,5 +1,5 @@
 // Reading the prices and the tiers of a class.
-ghost use Rattle.std.specs.Prelude.{◌≡◌, ℕ, IfOk, Option, codes};
+ghost use Rattle.std.specs.Prelude.{◌≡◌, ℕ, true, IfOk, IfSome, Option, codes};
 ghost use Rattle.toml.specs.Data.{Data, Items, Members, array, as_integer, get_member};
 ghost use Rattle.toml.specs.Tables.{Nodes};
 ghost use Rattle.toml_rows.specs.Rows.{row_of, Row};
@@ -8,6 +8,7 @@ ghost use Rattle.toml_rows.specs.Documents.{IsTable};
 ghost use Rattle.toml_rows.specs.Walking.{Says, Finds, IsArray, items_of, data_of_all, tables_of};
 ghost use Rattle.tariff.specs.Faults.{TariffGives};
 ghost use Rattle.tariff.specs.Opened.{price_by, upto_by, one_at};
+ghost use Rattle.tariff.specs.Prices.{is_price};
 ghost use Rattle.tariff.specs.Reading.{price_of, upto_of, end_said, tier_by, tier_among, tier_said, tiers_said, in_range, tiers_of};
 
 use crate::fault::{TariffFault, TariffTable};
@@ -46,9 +47,11 @@ fn price_by(number: Option<i64>) -> Option<u32>
 }
 
 // The price that a value is.
+#[tactic(auto, using(crate::proofs::ValueReading::price_in_range))]
 pub(crate) fn price_of(alloc: Global, found: Found) -> Result<Option<u32>, AllocError>
-    ensures { IfOk result (λ price. (depth : ℕ) (row : Row) (d : Data) → Says depth row found.entry d
+    ensures value { IfOk result (λ price. (depth : ℕ) (row : Row) (d : Data) → Says depth row found.entry d
         → price ≡ price_of d) }
+    ensures range { IfOk result (λ price. IfSome price (λ p. is_price p ≡ true)) }
 {
     let number = integer_in(alloc, found)?;
     Ok(price_by(number))
@@ -132,8 +135,8 @@ fn known_tier(alloc: Global, keys: &Keys, table: u32) -> Result<Option<Tier>, Al
     ensures { IfOk result (λ tier. (depth : ℕ) (ms : Members) → IsTable depth (row_of keys.now) table ms
         → tier ≡ tier_by (get_member (codes "price") ms) (end_said (get_member (codes "upto") ms))) }
 {
-    let price = keys.get(table, "price".as_bytes());
-    let upto = keys.get(table, "upto".as_bytes());
+    let price = keys.get(table, "price");
+    let upto = keys.get(table, "upto");
     let end = end_said(alloc, upto)?;
     let tier = tier_by(alloc, price, end)?;
     Ok(tier)

@@ -1,4 +1,4 @@
-use crate::given;
+use crate::given::{self, equal_text};
 use command_line::read_line;
 use std::alloc::Global;
 use std::process::Abort;
@@ -124,7 +124,6 @@ fn told(rt: &impl Abort, alloc: Global, text: &str) -> String {
 #[test]
 fn lines(rt: HostRuntime) {
     for (text, wanted) in &LINES {
-        let told = told(&rt, rt.alloc(), text);
-        assert_eq!(rt; told.as_str(), *wanted, "{text}");
+        equal_text(&rt, text, &told(&rt, rt.alloc(), text), wanted);
     }
 }

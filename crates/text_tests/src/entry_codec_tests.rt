@@ -1,7 +1,7 @@
 ghost use Rattle.std.specs.Prelude.{option_copied};
 ghost use Rattle.office_types.specs.Tokens.{MayCarry};
 
-use crate::given::{key, moment, month, name, size, tags};
+use crate::given::{equal, key, moment, month, name, size, tags};
 use class_rules::Class;
 use entry_codec::{Command, Entry, EntryFault, decode, encode};
 use office_types::Token;
@@ -31,14 +31,18 @@ const TAGGED: [u8; 49] = [
     0x77,
 ];
 
+// These parts, one after the other.
+fn together(rt: &impl Abort, alloc: Global, parts: &[&[u8]]) -> Vec<u8> {
+    let mut bytes = Vec::new(alloc);
+    for part in parts {
+        bytes.extend_from_slice(part).expect(rt, "memory");
+    }
+    bytes
+}
+
 // NEW_YEAR, and these bytes after it.
 fn entry_of(rt: &impl Abort, alloc: Global, behind: &[u8]) -> Vec<u8> {
-    let mut bytes = Vec::new(alloc);
-    bytes
-        .extend_from_slice(&NEW_YEAR.to_be_bytes())
-        .expect(rt, "memory");
-    bytes.extend_from_slice(behind).expect(rt, "memory");
-    bytes
+    together(rt, alloc, &[&NEW_YEAR.to_be_bytes(), behind])
 }
 
 // The fault of NEW_YEAR and these bytes; none if they are an entry.
@@ -198,7 +202,8 @@ const ENTRIES: [&[u8]; 35] = [
 #[test]
 fn every_kind_is_read_and_written(rt: HostRuntime) {
     for (index, behind) in ENTRIES.iter().enumerate() {
-        assert!(rt; is_written_again(&rt, rt.alloc(), behind), "{index}");
+        let is_so = is_written_again(&rt, rt.alloc(), behind);
+        equal(&rt, &index, &is_so, &true);
     }
 }
 
@@ -407,25 +412,25 @@ const TIER_FAULTS: [([&[u8]; 5], u64); 17] = [
 #[test]
 fn a_fault_names_its_field(rt: HostRuntime) {
     for (index, (behind, offset)) in FAULTS.iter().enumerate() {
-        assert_eq!(rt; fault_of(&rt, rt.alloc(), behind), bad(*offset), "{index}");
+        let found = fault_of(&rt, rt.alloc(), behind);
+        equal(&rt, &index, &found, &bad(*offset));
     }
 }
 
 #[test]
 fn a_fault_names_its_field_behind_a_token(rt: HostRuntime) {
     for (index, (behind, offset)) in TOKEN_FAULTS.iter().enumerate() {
-        assert_eq!(rt; fault_of(&rt, rt.alloc(), behind), bad(*offset), "{index}");
+        let found = fault_of(&rt, rt.alloc(), behind);
+        equal(&rt, &index, &found, &bad(*offset));
     }
 }
 
 #[test]
 fn a_fault_names_its_field_of_tiers(rt: HostRuntime) {
     for (index, (parts, offset)) in TIER_FAULTS.iter().enumerate() {
-        let mut behind = Vec::new(rt.alloc());
-        for part in parts {
-            behind.extend_from_slice(part).expect(&rt, "memory");
-        }
-        assert_eq!(rt; fault_of(&rt, rt.alloc(), &behind), bad(*offset), "{index}");
+        let behind = together(&rt, rt.alloc(), parts);
+        let found = fault_of(&rt, rt.alloc(), &behind);
+        equal(&rt, &index, &found, &bad(*offset));
     }
 }
 
@@ -451,11 +456,7 @@ fn set_rules(rt: &impl Abort, alloc: Global, rule: &[u8]) -> Vec<u8> {
     assert!(rt; head.len() < 100 && rule.len() < 1_000 && tail.len() < 100);
     let length = ((head.len() + rule.len() + tail.len()) as u32).to_be_bytes();
     let parts = [b"\x03\0\x04logs", length.as_slice(), head, rule, tail];
-    let mut behind = Vec::new(alloc);
-    for part in &parts {
-        behind.extend_from_slice(part).expect(rt, "memory");
-    }
-    behind
+    together(rt, alloc, &parts)
 }
 
 #[test]
@@ -468,6 +469,6 @@ fn rules_have_one_text(rt: HostRuntime) {
 fn other_texts_of_rules(rt: HostRuntime) {
     for (index, rule) in OTHER_TEXTS.iter().enumerate() {
         let behind = set_rules(&rt, rt.alloc(), rule);
-        assert_eq!(rt; fault_of(&rt, rt.alloc(), &behind), bad(15), "{index}");
+        equal(&rt, &index, &fault_of(&rt, rt.alloc(), &behind), &bad(15));
     }
 }

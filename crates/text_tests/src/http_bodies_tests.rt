@@ -1,4 +1,4 @@
-use crate::given::text;
+use crate::given::{digits, equal_text, joined, text};
 use http_bodies::{BodyFault, read_part, read_put, read_status, read_tags, read_upload};
 use office_base::Tags;
 use std::alloc::Global;
@@ -6,16 +6,12 @@ use std::process::Abort;
 
 fn told_fault(rt: &impl Abort, alloc: Global, fault: &BodyFault) -> String {
     match fault {
-        BodyFault::BadBody { field } => joined(rt, alloc, "BadBody ", field),
-        BodyFault::UnsupportedClass { name } => joined(rt, alloc, "UnsupportedClass ", name),
+        BodyFault::BadBody { field } => joined(rt, alloc, &["BadBody ", field]),
+        BodyFault::UnsupportedClass { name } => joined(rt, alloc, &["UnsupportedClass ", name]),
         BodyFault::BadSize => text(rt, alloc, "BadSize"),
         BodyFault::BadTags => text(rt, alloc, "BadTags"),
         BodyFault::NoMemory => text(rt, alloc, "NoMemory"),
     }
-}
-
-fn joined(rt: &impl Abort, alloc: Global, front: &str, back: &str) -> String {
-    format!(in alloc; "{front}{back}").expect(rt, "memory")
 }
 
 // A text, and the tags after it.
@@ -32,8 +28,8 @@ fn with_tags(rt: &impl Abort, mut text: String, tags: &Tags) -> String {
 fn told_put(rt: &impl Abort, alloc: Global, bytes: &[u8]) -> String {
     match read_put(alloc, bytes) {
         Ok(body) => {
-            let (size, class) = (body.size.bytes(), body.class.name());
-            let told = format!(in alloc; "{size} {class}").expect(rt, "memory");
+            let size = digits(rt, alloc, body.size.bytes());
+            let told = joined(rt, alloc, &[&size, " ", body.class.name()]);
             with_tags(rt, told, &body.tags)
         }
         Err(fault) => told_fault(rt, alloc, &fault),
@@ -56,7 +52,7 @@ fn told_tags(rt: &impl Abort, alloc: Global, bytes: &[u8]) -> String {
 
 fn told_part(rt: &impl Abort, alloc: Global, bytes: &[u8]) -> String {
     match read_part(alloc, bytes) {
-        Ok(size) => format!(in alloc; "{size}").expect(rt, "memory"),
+        Ok(size) => digits(rt, alloc, size),
         Err(fault) => told_fault(rt, alloc, &fault),
     }
 }
@@ -88,13 +84,9 @@ fn told(rt: &impl Abort, alloc: Global, body: Body, bytes: &[u8]) -> String {
     }
 }
 
-fn is_told(rt: &impl Abort, alloc: Global, body: Body, bytes: &[u8], answer: &str) -> bool {
-    told(rt, alloc, body, bytes).as_str() == answer
-}
-
 fn are_told(rt: &impl Abort, alloc: Global, body: Body, rows: &[(&str, &str)]) {
     for (text, answer) in rows {
-        assert!(rt; is_told(rt, alloc, body, text.as_bytes(), answer), "{text}");
+        equal_text(rt, text, &told(rt, alloc, body, text.as_bytes()), answer);
     }
 }
 
@@ -263,7 +255,8 @@ fn settings_of_versioning(rt: HostRuntime) {
 #[test]
 fn a_body_that_is_no_text(rt: HostRuntime) {
     let bytes = b"{\"size\":1,\"tags\":{\"a\":\"\xff\"}}";
-    assert!(rt; is_told(&rt, rt.alloc(), Body::Put, bytes, "BadBody "));
+    let told = told(&rt, rt.alloc(), Body::Put, bytes);
+    equal_text(&rt, &"no text", &told, "BadBody ");
 }
 
 // Ten tags, and eleven.
@@ -290,7 +283,7 @@ fn nested(rt: &impl Abort, alloc: Global, depth: usize) -> String {
     assert!(rt; depth < 1_000);
     let open = "[".repeat(alloc, depth).expect(rt, "memory");
     let close = "]".repeat(alloc, depth).expect(rt, "memory");
-    format!(in alloc; "{{\"a\":{open}{close}}}").expect(rt, "memory")
+    joined(rt, alloc, &["{\"a\":", &open, &close, "}"])
 }
 
 const DEPTHS: [(usize, &str); 2] = [(126, "BadBody a"), (127, "BadBody ")];
@@ -299,9 +292,7 @@ const DEPTHS: [(usize, &str); 2] = [(126, "BadBody a"), (127, "BadBody ")];
 fn the_bound_of_depth(rt: HostRuntime) {
     for (depth, answer) in &DEPTHS {
         let text = nested(&rt, rt.alloc(), *depth);
-        assert!(rt;
-            is_told(&rt, rt.alloc(), Body::Put, text.as_bytes(), answer),
-            "{depth}"
-        );
+        let told = told(&rt, rt.alloc(), Body::Put, text.as_bytes());
+        equal_text(&rt, depth, &told, answer);
     }
 }

@@ -1,7 +1,7 @@
 ghost use Rattle.std.specs.Prelude.{◌<◌, ◌^◌};
 ghost use Rattle.office_types.specs.Fits.{AnswerFits, RefusalFits, ReplyFits};
 
-use crate::given::{id, key, moment, month, name, size, tags, text};
+use crate::given::{digits, equal, id, joined, key, moment, month, name, size, tags, text};
 use class_rules::Class;
 use due_core::{ActionKind, Target};
 use http_text::{PIECE_ROOM, StackPieces, is_short, print_answer, put_answer};
@@ -29,10 +29,11 @@ const FULL: &str = "507 Insufficient Storage";
 
 // A whole reply.
 fn reply_of(rt: &impl Abort, alloc: Global, status: &str, media: &str, body: &str) -> String {
-    let length = body.len();
-    format!(in alloc;
-        "HTTP/1.1 {status}\r\ncontent-type: {media}\r\ncontent-length: {length}\r\n\r\n{body}"
-    ).expect(rt, "memory")
+    let length = digits(rt, alloc, body.len() as u64);
+    let (media_is, length_is) = ("\r\ncontent-type: ", "\r\ncontent-length: ");
+    let head = ["HTTP/1.1 ", status, media_is, media, length_is, &length];
+    let head = joined(rt, alloc, &head);
+    joined(rt, alloc, &[&head, "\r\n\r\n", body])
 }
 
 // The reply as printed into a room of 16,384 bytes.
@@ -58,7 +59,7 @@ fn is_printed(
 {
     let room = printed(rt, alloc, answer);
     let wanted = reply_of(rt, alloc, status, JSON, body);
-    assert_eq!(rt; room.as_slice(), wanted.as_bytes(), "{body}");
+    assert!(rt; room.as_slice() == wanted.as_bytes(), "{body}");
 }
 
 // The numbers of refusals, their names, and the statuses of the replies.
@@ -98,11 +99,19 @@ fn refusal(number: u16) -> Refusal
     }
 }
 
+fn short_body(rt: &impl Abort, alloc: Global, name: &str, number: u16) -> String {
+    let number = digits(rt, alloc, u64::from(number));
+    joined(
+        rt,
+        alloc,
+        &["{\"error\":\"", name, "\",\"number\":", &number, "}"],
+    )
+}
+
 #[test]
 fn short_refusals(rt: HostRuntime) {
     for (number, name, status) in &SHORT {
-        let body = format!(in rt.alloc(); "{{\"error\":\"{name}\",\"number\":{number}}}");
-        let body = body.expect(&rt, "memory");
+        let body = short_body(&rt, rt.alloc(), name, *number);
         is_printed(&rt, rt.alloc(), &Err(refusal(*number)), status, &body);
     }
 }
@@ -441,7 +450,8 @@ fn the_longest_action(rt: HostRuntime) {
     let key = key(&rt, alloc, &LONGEST_KEY);
     let reply = chosen(&rt, alloc, kind, key, target, rule, None);
     // 1,024 and 255 bytes, each escaped as six characters, and the text between them.
-    assert_eq!(rt; printed(&rt, alloc, &Ok(reply)).len(), 7_881);
+    let size = printed(&rt, alloc, &Ok(reply)).len();
+    equal(&rt, &"the longest", &size, &7_881);
 }
 
 fn used(class: Class, byte_ms: u128, early_byte_ms: u128, moves: u64) -> ClassMeters {
@@ -489,8 +499,9 @@ fn meters(rt: HostRuntime) {
 #[test]
 fn a_short_room(rt: HostRuntime) {
     let mut room = [7u8; 10];
-    assert_eq!(rt; put_answer(&mut room, &Err(Refusal::NoMemory)), 123);
-    assert_eq!(rt; &room[..4], b"HTTP".as_slice());
+    let size = put_answer(&mut room, &Err(Refusal::NoMemory));
+    equal(&rt, &"the size", &size, &123);
+    assert!(rt; &room[..4] == b"HTTP".as_slice());
 }
 
 // Checks the reply that is printed into memory of its own.
@@ -499,7 +510,7 @@ fn is_kept(rt: &impl Abort, alloc: Global, answer: &Result<Reply, Refusal>, medi
 {
     let text = print_answer(alloc, answer).expect(rt, "memory");
     let wanted = reply_of(rt, alloc, OK, media, body);
-    assert_eq!(rt; text.as_slice(), wanted.as_bytes(), "{body}");
+    assert!(rt; text.as_slice() == wanted.as_bytes(), "{body}");
 }
 
 // An object with two tags, given out of order, of the second day of 2024.
@@ -527,7 +538,8 @@ fn two_versions(rt: &impl Abort, alloc: Global) -> Stack {
         ceased: moment(rt, 1_704_153_600_000),
     };
     let versions = vec![in alloc; object(rt, alloc), marker].expect(rt, "memory");
-    Stack::of(moment(rt, 1_704_153_600_000), versions).expect(rt, "a stack")
+    let stack = Stack::of(moment(rt, 1_704_153_600_000), versions).expect(rt, "memory");
+    stack.expect(rt, "a stack")
 }
 
 const VERSIONS: &str = "{\"changed\":\"2024-01-02T00:00:00.000Z\",\"key\":\"a\",\"versions\":[\
@@ -552,8 +564,8 @@ fn two_versions_are_one_piece(rt: HostRuntime) {
     let mut room = vec![in rt.alloc(); 0u8; PIECE_ROOM].expect(&rt, "memory");
     let mut pieces = StackPieces::new(&key, &stack).expect(&rt, "pieces");
     let size = pieces.next(room.as_mut_slice()).expect(&rt, "a piece");
-    assert_eq!(rt; &room[..size], wanted.as_bytes());
-    assert_eq!(rt; pieces.next(room.as_mut_slice()), None);
+    assert!(rt; &room[..size] == wanted.as_bytes());
+    assert!(rt; pieces.next(room.as_mut_slice()).is_none());
 }
 
 // Parts 1 and 3; part 3 was put first.

@@ -1,6 +1,6 @@
 use crate::fault_rows::{DATE_ROWS, FIELD_ROWS, JSON_ROWS};
 use crate::flaw_rows::{ORDER_ROWS, RANGE_ROWS, SPELLING_ROWS};
-use crate::given::text;
+use crate::given::{equal_text, joined, text};
 use rules_json::{RulesFault, print_rules, read_rules};
 use std::alloc::Global;
 use std::process::Abort;
@@ -31,7 +31,7 @@ fn told_fault(rt: &impl Abort, alloc: Global, fault: &RulesFault) -> String {
 }
 
 fn named(rt: &impl Abort, alloc: Global, kind: &str, name: &str) -> String {
-    format!(in alloc; "{kind} {name}").expect(rt, "memory")
+    joined(rt, alloc, &[kind, " ", name])
 }
 
 // A text in a frame; in all three, ' is written for ".
@@ -71,10 +71,8 @@ fn answer(rt: &impl Abort, alloc: Global, row: &str) -> String {
 
 fn are_answered(rt: &impl Abort, alloc: Global, rows: &[(&str, &str)]) {
     for (row, wanted) in rows {
-        let document = document(rt, alloc, row);
-        let told = told(rt, alloc, document.as_bytes());
-        let wanted = answer(rt, alloc, wanted);
-        assert_eq!(rt; told.as_str(), wanted.as_str(), "{row}");
+        let told = told(rt, alloc, document(rt, alloc, row).as_bytes());
+        equal_text(rt, row, &told, &answer(rt, alloc, wanted));
     }
 }
 
@@ -246,8 +244,7 @@ fn long_document(
 ) -> String {
     let front = repeated(rt, alloc, parts.0, times);
     let back = repeated(rt, alloc, parts.1, times);
-    let row = format!(in alloc; "{head}{front}{back}{tail}").expect(rt, "memory");
-    document(rt, alloc, row.as_str())
+    document(rt, alloc, &joined(rt, alloc, &[head, &front, &back, tail]))
 }
 
 #[test]
@@ -255,12 +252,12 @@ fn long_documents_and_their_answers(rt: HostRuntime) {
     for (head, part, other, times, tail, wanted) in &LONG_ROWS {
         let text = long_document(&rt, rt.alloc(), head, (part, other), *times, tail);
         let told = told(&rt, rt.alloc(), text.as_bytes());
-        assert_eq!(rt; told.as_str(), *wanted, "{head} {times}");
+        equal_text(&rt, &(*head, *times), &told, wanted);
     }
 }
 
 #[test]
 fn a_document_that_is_no_text(rt: HostRuntime) {
     let told = told(&rt, rt.alloc(), b"{\"Rules\":[{\"ID\":\"\xff\"}]}");
-    assert_eq!(rt; told.as_str(), "NotJson");
+    equal_text(&rt, &"no text", &told, "NotJson");
 }

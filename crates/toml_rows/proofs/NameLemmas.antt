@@ -1,7 +1,9 @@
 -- One more name, and the name at an index.
 use Rattle.std.proofs.Common.{◌≡◌, ℕ, zero, suc, ◌+◌, ◌-◌, ◌<◌, ◌≤◌, List, [], ◌∷◌, ◌++◌, length, take, drop, get_or, refl, ap, ap₂, sym, ◌∙◌, arith, length-drop, take_all}
-use Rattle.std.proofs.lemmas.List.{take-append-le, drop-append-le, drop_at}
-use Rattle.toml_rows.specs.Names.{names_from, Rise, start_of}
+use Rattle.std.specs.Str.{IsUtf8, IsCharBoundary}
+use Rattle.std.proofs.lemmas.List.{take-append-le, drop-append-le, drop_at, drop_all, length-append}
+use Rattle.std.proofs.lemmas.Str.{IsUtf8-append, IsUtf8-nil, IsCharBoundary-from_drop}
+use Rattle.toml_rows.specs.Names.{names_from, Rise, AreCuts, start_of}
 
 pub rise_le : (start : ℕ) (ends : List ℕ) (last : ℕ) → Rise start ends last → start ≤ last
 rise_le start [] last h = omega arith
@@ -60,6 +62,29 @@ unfolding names_from
 no_name start [] bytes i past = refl
 no_name start (e ∷ ends) bytes zero past = absurd (omega arith)
 no_name start (e ∷ ends) bytes (suc i) past = no_name e ends bytes i (omega arith)
+
+-- one more cut, at the end of the text
+pub cuts_push : (start : ℕ) (ends text more : List ℕ) (end : ℕ) → Rise start ends (length text) → AreCuts ends text → IsUtf8 more
+    → end ≡ length text + length more → AreCuts (ends ++ end ∷ []) (text ++ more)
+cuts_push start [] text more end rise cuts is_text is =
+    let gone : drop end (text ++ more) ≡ [] = drop_all end (text ++ more) (omega (arith, length-append text more)) in
+    (rw gone IsUtf8-nil, tt)
+cuts_push start (e ∷ ends) text more end rise cuts is_text is = (
+  rw (drop-append-le e text more (rise_le e ends (length text) rise.1)) (IsUtf8-append (drop e text) more cuts.0 is_text),
+  cuts_push e ends text more end rise.1 cuts.1 is_text is,
+)
+
+-- the name at an index begins and ends between characters
+pub end_cut : (start : ℕ) (ends text : List ℕ) (i : ℕ) → Rise start ends (length text) → AreCuts ends text → i < length ends
+    → IsCharBoundary text (get_or ends i 0)
+end_cut start [] text i rise cuts within = absurd (omega arith)
+end_cut start (e ∷ ends) text zero rise cuts within = IsCharBoundary-from_drop text e (rise_le e ends (length text) rise.1) cuts.0
+end_cut start (e ∷ ends) text (suc i) rise cuts within = end_cut e ends text i rise.1 cuts.1 (omega arith)
+
+pub start_cut : (ends text : List ℕ) (i : ℕ) → Rise 0 ends (length text) → AreCuts ends text → 0 < start_of 0 ends i → i < length ends
+    → IsCharBoundary text (start_of 0 ends i)
+start_cut ends text zero rise cuts some within = absurd (omega arith)
+start_cut ends text (suc i) rise cuts some within = end_cut 0 ends text i rise cuts (omega arith)
 
 -- an index as the code computes with it
 pub start_later : (ends : List ℕ) (i : ℕ) → ¬ (i ≡ 0) → start_of 0 ends i ≡ get_or ends (i - 1) 0

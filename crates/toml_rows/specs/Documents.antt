@@ -35,6 +35,7 @@ ReadsTable depth r expected =
     MatchResult r (λ p. (ms : Members) × IsTable depth (row_of p.0) 0 ms × (expected ≡ Some (ms, p.1.now)))
     (λ e. ¬ (e ≡ OutOfMemory) → expected ≡ None)
 
+-- a row whose root has the members that are expected, unless memory ran out
 abbrev pub GivesTable : ℕ → Result Keys ParseError → Option Members → Type 0
 GivesTable depth r expected =
     MatchResult r (λ keys. (ms : Members) × IsTable depth (row_of keys) 0 ms × (expected ≡ Some ms))
@@ -46,6 +47,7 @@ definition_view (Pair text) = spec.key_value (data_at recursion_limit text.now)
 definition_view Table = spec.std_table
 definition_view Element = spec.array_table
 
+-- the key of a line, what stands on the line, and the text after it, unless memory ran out
 abbrev pub ReadsLine : Result (code.Key × Definition × Bor (List ℕ)) ParseError → Read Expression → Type 0
 ReadsLine r expected =
     MatchResult r (λ p. expected ≡ Some ((key_view p.0, definition_view p.1), p.2.now)) (λ e. ¬ (e ≡ OutOfMemory) → expected ≡ None)
@@ -59,6 +61,7 @@ pub record Defined (new : Row) (s : ℕ) (expected : Option Document) : Type 0 w
   pub leads : Leads new path s
   pub is : expected ≡ Some (tables 0, path)
 
+-- what a line makes of a document and of the table of its last header, unless memory ran out
 abbrev pub Defines : Row → Row → ℕ → Expression → Result ℕ ParseError → Type 0
 Defines old new section e r =
     (tables : ℕ → Nodes) (elements : ℕ → Items) (p : List (List ℕ)) → Holds recursion_limit old tables elements → Leads old p section

@@ -12,11 +12,13 @@ use Rattle.toml_rows.specs.declared.row.What.TheVariants.{Value, Implicit, Dotte
 use Rattle.toml_rows.specs.Rows.{is_open, inside, Row, IsFound, Puts}
 use Rattle.toml_rows.specs.Tables.{IsTree, IsTold, Leads}
 
--- the data of a value that a text begins with
+-- the data of a value that was read; false if there is none
 abbrev pub data_in : Read Data → Data
 data_in None = boolean false
 data_in (Some read) = read.0
 
+-- the data of the value that a text begins with, in which arrays and inline tables nest at most this deep; false if it
+-- begins with no such value
 abbrev pub data_at : ℕ → List ℕ → Data
 data_at depth text = data_in (val depth text)
 

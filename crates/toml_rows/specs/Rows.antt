@@ -91,15 +91,19 @@ pub record Nexts (old new : Row) (at before : ℕ) : Type 0 where
 
 -- ---- rows in lists
 
+-- what counts as a part past the last one
 abbrev pub no_part : Part
 no_part = record { table = none; low = none; high = none; what = Element none }
 
+-- the part of this number
 abbrev pub part_at : List Part → ℕ → Part
 part_at parts i = get_or parts i no_part
 
+-- the part that a search looks at next, after a bit 1 (high) or a bit 0
 abbrev pub side_of : Part → Bool → ℕ
 side_of part high = if high then part.high else part.low
 
+-- the row of these parts, their names and the texts from the values on
 abbrev pub row_by : List Part → List (List ℕ) → List (List ℕ) → Row
 row_by parts names values = record {
   count = length parts;
@@ -111,16 +115,18 @@ row_by parts names values = record {
   values = values;
 }
 
+-- the row of the keys of a document
 abbrev pub row_of : Keys → Row
 row_of keys = row_by keys.parts.items keys.names (map (λ (text : Bor (List ℕ)). text.now) keys.values.items)
 
 -- ---- the search
 
--- a bit of a key: those of the table's number, the lowest first, and then those of the name
+-- a bit of a key: the 21 lowest bits of the table's number, the lowest first, and then those of the name
 abbrev pub key_bit : ℕ → List ℕ → ℕ → Bool
 key_bit t k turn =
     if nat_lt turn 21 then t / 2 ^ turn % 2 == 1 else slice_index k ((turn - 21) / 8) / 2 ^ ((turn - 21) % 8) % 2 == 1
 
+-- a bit of a part's key
 abbrev pub bit_of : Row → ℕ → ℕ → Bool
 bit_of row i turn = key_bit (row.table i) (row.name i) turn
 
@@ -128,10 +134,11 @@ bit_of row i turn = key_bit (row.table i) (row.name i) turn
 abbrev pub on_of : Row → ℕ → Bool
 on_of row i = is_key (row.what i) || i == 0
 
+-- the links make a tree in which a search finds each key; the level is how many bits come before a part
 abbrev pub IsFoundBy : Row → (ℕ → ℕ) → Type 0
 IsFoundBy row level = IsSearch row.count (bit_of row) (on_of row) row.link level
 
--- each key is found
+-- the links make a tree in which a search finds each key
 abbrev pub IsFound : Row → Type 0
 IsFound row = (level : ℕ → ℕ) × IsFoundBy row level
 
@@ -143,11 +150,12 @@ pub record IsFree (row : Row) (level : ℕ → ℕ) (t : ℕ) (k : List ℕ) (at
   pub side : high ≡ key_bit t k turn
   pub free : row.link at high ≡ none
 
+-- the key is at this part, or no part has it and it would hang on this side of this part
 abbrev pub IsSeat : Row → (ℕ → ℕ) → ℕ → List ℕ → Seat → Type 0
 IsSeat row level t k (Found i) = HasKey row i t k
 IsSeat row level t k (Free at high) = IsFree row level t k at high
 
--- one part more, which no link leads to
+-- one part more, without links; the links of the others are as before
 pub record Pushes (old new : Row) (t : ℕ) (k : List ℕ) (w : What) (n : ℕ) : Type 0 where
   pub number : n ≡ old.count
   pub small : new.count < none
@@ -205,7 +213,7 @@ pub record IsTurn (row : Row) (level : ℕ → ℕ) (t : ℕ) (k : List ℕ) (at
   pub rises : turn ≤ at
   pub passed : (j : ℕ) → HasKey row j t k → at < j
 
--- an array at a part has one element more, which is found no more than the others
+-- an array at a part has one element more, which no search finds
 pub record NextOf (old new : Row) (at before n : ℕ) : Type 0 where
   pub number : n ≡ old.count
   pub small : new.count < none

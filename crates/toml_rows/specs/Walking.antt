@@ -37,6 +37,7 @@ Says depth row (found.Value text) d = d ≡ data_at depth text.now
 Says depth row (found.Table t) d = (ms : Members) × IsTable depth row t ms × (d ≡ table ms)
 Says depth row (found.Tables last) d = (ds : Items) × IsArray depth row last ds × (d ≡ array ds)
 
+-- what was found is the value that is expected, or neither is there
 abbrev pub Finds : ℕ → Row → Option Found → Option Data → Type 0
 Finds depth row None expected = expected ≡ None
 Finds depth row (Some what) expected = (d : Data) × Says depth row what d × (expected ≡ Some d)

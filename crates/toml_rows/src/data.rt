@@ -11,8 +11,11 @@ use std::alloc::{AllocError, Global};
 use toml_parser::text::{first, skip, skip_blank};
 use toml_parser::{ErrorKind, ParseError, Scalar, quoted, starts_string, unquoted};
 
-/// Reads the inline table that a text begins with; None if it begins with no table. `depth` is how deep its values may
-/// nest.
+/// Reads the inline table that a text begins with; None if it begins with no valid inline table at most `depth` deep.
+///
+/// # Errors
+///
+/// `AllocError`: memory ran out.
 pub fn inline(alloc: Global, text: &str, depth: usize) -> Result<Option<Keys<'_>>, AllocError>
     ensures { IfOk result (λ found. IsInline depth text.now found) }
 {
@@ -32,7 +35,12 @@ pub fn inline(alloc: Global, text: &str, depth: usize) -> Result<Option<Keys<'_>
     }
 }
 
-/// Reads the text from each element of an array on; None if the text begins with no array.
+/// Gives the text from each element on, of the array that a text begins with. None if it begins with no valid array at
+/// most `depth` deep.
+///
+/// # Errors
+///
+/// `AllocError`: memory ran out.
 pub fn elements(alloc: Global, text: &str, depth: usize) -> Result<Option<Vec<&str>>, AllocError>
     ensures { IfOk result (λ found. IsList depth text.now found) }
 {
@@ -67,7 +75,11 @@ fn rest_of_array(alloc: Global, s: &str, depth: usize) -> Result<Vec<&str>, Pars
     }
 }
 
-/// Reads the integer that a text begins with; None if it begins with another value.
+/// Reads the integer that a text begins with; None if it begins with another value or none.
+///
+/// # Errors
+///
+/// `AllocError`: memory ran out.
 pub fn integer(alloc: Global, text: &str) -> Result<Option<i64>, AllocError>
     ensures { IfOk result (λ n. (depth : ℕ) → n ≡ as_integer (data_at depth text.now)) }
 {
@@ -99,7 +111,11 @@ fn integer_of(scalar: Scalar) -> Option<i64>
     }
 }
 
-/// Reads the string that a text begins with; None if it begins with another value.
+/// Reads the string that a text begins with; None if it begins with another value or none.
+///
+/// # Errors
+///
+/// `AllocError`: memory ran out.
 pub fn string(alloc: Global, text: &str) -> Result<Option<String>, AllocError>
     ensures { IfOk result (λ found. (depth : ℕ) → option_map string_bytes found ≡ as_str (data_at depth text.now)) }
 {

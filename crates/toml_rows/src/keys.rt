@@ -1,5 +1,7 @@
 // The keys of a document in one row, and the search for one of them.
 ghost use Rattle.std.specs.Prelude.{◌≡◌, ℕ, ◌<◌, ◌↔◌, false, IsTrue, IfOk, length};
+ghost use Rattle.toml.specs.Data.{no_members};
+ghost use Rattle.toml_rows.specs.Documents.{IsTable};
 ghost use Rattle.toml_rows.specs.Rows.{is_key, row_of, key_bit, IsFoundBy, IsFree, IsSeat, IsEmpty, Pushes, Relinks, Adds, Puts, with_value};
 
 use crate::names::Names;
@@ -19,23 +21,25 @@ pub struct Keys<'s> {
 }
 
 // A bit of a key.
-fn bit(table: u32, name: &[u8], turn: usize) -> bool
+fn bit(table: u32, name: &str, turn: usize) -> bool
     ensures { result ≡ key_bit table name.now turn }
 {
     if turn < TABLE_BITS {
         return table / 2u32.pow(turn as u32) % 2 == 1;
     }
     let place = turn - TABLE_BITS;
-    match name.get(place / 8) {
+    match name.as_bytes().get(place / 8) {
         Some(byte) => *byte / 2u8.pow((place % 8) as u32) % 2 == 1,
         None => false,
     }
 }
 
 impl<'s> Keys<'s> {
-    /// No keys.
+    /// No keys: the empty table.
+    #[tactic(auto, using(crate::proofs::LoopLemmas::empty_table))]
     pub fn new(alloc: Global) -> Result<Keys<'s>, AllocError>
-        ensures { IfOk result (λ keys. IsEmpty (row_of keys)) }
+        ensures row { IfOk result (λ keys. IsEmpty (row_of keys)) }
+        ensures table { IfOk result (λ keys. (depth : ℕ) → IsTable depth (row_of keys) 0 no_members) }
     {
         Keys::with_room(alloc, 0)
     }
@@ -46,7 +50,7 @@ impl<'s> Keys<'s> {
     {
         let mut parts = Vec::with_capacity(alloc, room)?;
         let mut names = Names::new(alloc);
-        names.push(&[])?;
+        names.push("")?;
         let root = Part {
             table: NONE,
             low: NONE,
@@ -92,7 +96,7 @@ impl<'s> Keys<'s> {
         }
     }
 
-    fn is(&self, part: u32, table: u32, name: &[u8]) -> bool
+    fn is(&self, part: u32, table: u32, name: &str) -> bool
         ensures { IsTrue result ↔ ((row_of self.now).table part ≡ table) × ((row_of self.now).name part ≡ name.now) }
     {
         self.table(part) == table && self.names.get(part as usize) == name
@@ -100,7 +104,7 @@ impl<'s> Keys<'s> {
 
     /// Looks for a key.
     #[tactic(auto, using(crate::proofs::RowLemmas::turn_first))]
-    pub(crate) fn find(&self, table: u32, name: &[u8]) -> Seat
+    pub(crate) fn find(&self, table: u32, name: &str) -> Seat
         ensures { (level : ℕ → ℕ) → IsFoundBy (row_of self.now) level → is_key ((row_of self.now).what 0) ≡ false
             → IsSeat (row_of self.now) level table name.now result }
     {
@@ -119,8 +123,8 @@ impl<'s> Keys<'s> {
         Seat::Free(NONE, false)
     }
 
-    /// Adds a part at the end, outside the search.
-    pub(crate) fn push(&mut self, table: u32, name: &[u8], what: What) -> Result<u32, AllocError>
+    /// Adds a part at the end, without links; the links of the others are as before.
+    pub(crate) fn push(&mut self, table: u32, name: &str, what: What) -> Result<u32, AllocError>
         ensures { (row_of self.old).named ≡ (row_of self.old).count
             → IfOk result (λ n. Pushes (row_of self.old) (row_of self.new) table name.now what n) }
     {
@@ -157,7 +161,7 @@ impl<'s> Keys<'s> {
     pub(crate) fn add(
         &mut self,
         table: u32,
-        name: &[u8],
+        name: &str,
         at: u32,
         high: bool,
         what: What,

@@ -10,18 +10,19 @@ use std::marker::Model;
 pub(crate) struct Names {
     /// Where each name ends.
     ends: Vec<u32>,
-    bytes: Vec<u8>,
+    text: String,
 }
 
 impl Model for Names {
-    ghost use Rattle.std.specs.Prelude.{ℕ, List, length};
-    ghost use Rattle.toml_rows.specs.Names.{names_from, Rise};
+    ghost use Rattle.std.specs.Prelude.{ℕ, List, length, string_bytes};
+    ghost use Rattle.toml_rows.specs.Names.{names_from, Rise, AreCuts};
 
     ghost Value = { List (List ℕ) };
 
-    ghost view = { λ names. names_from 0 names.ends.items names.bytes.items };
+    ghost view = { λ names. names_from 0 names.ends.items (string_bytes names.text) };
 
-    ghost invariant = { λ names. Rise 0 names.ends.items (length names.bytes.items) };
+    ghost invariant = { λ names. Rise 0 names.ends.items (length (string_bytes names.text))
+        × AreCuts names.ends.items (string_bytes names.text) };
 }
 
 impl Names {
@@ -32,36 +33,36 @@ impl Names {
     {
         Names {
             ends: Vec::new(alloc),
-            bytes: Vec::new(alloc),
+            text: String::new(alloc),
         }
     }
 
     /// Adds a name. Fails only if memory runs out.
-    #[tactic(auto, using(crate::proofs::NameLemmas::names_push, crate::proofs::NameLemmas::rise_push))]
-    pub(crate) fn push(&mut self, name: &[u8]) -> Result<(), AllocError>
+    #[tactic(auto, using(crate::proofs::NameLemmas::names_push, crate::proofs::NameLemmas::rise_push, crate::proofs::NameLemmas::cuts_push))]
+    pub(crate) fn push(&mut self, name: &str) -> Result<(), AllocError>
         ensures { IfOk result (λ _. self.new ≡ self.old ++ name.now ∷ []) }
     {
-        let end = self.bytes.len().saturating_add(name.len());
+        let end = self.text.len().saturating_add(name.len());
         if end > 4_294_967_295 {
             return Err(AllocError);
         }
         self.ends.reserve(1)?;
-        self.bytes.extend_from_slice(name)?;
+        self.text.push_str(name)?;
         self.ends.push_reserved(end as u32);
         Ok(())
     }
 
     /// Reads a name; an empty one past the end.
     #[tactic(auto, using(crate::proofs::NameLemmas::place, crate::proofs::NameLemmas::name_at, crate::proofs::NameLemmas::no_name))]
-    pub(crate) fn get(&self, index: usize) -> &[u8]
+    pub(crate) fn get(&self, index: usize) -> &str
         ensures { result.now ≡ slice_index_or self.now index [] }
     {
         if index >= self.ends.len() {
-            return &[];
+            return "";
         }
         let start = start(&self.ends, index);
         let end = self.ends[index] as usize;
-        &self.bytes[start..end]
+        &self.text[start..end]
     }
 }
 

@@ -40,7 +40,12 @@ pub(crate) fn document(alloc: Global, s: &str) -> Result<Keys<'_>, ParseError>
     }
 }
 
-/// Reads a document; None if the text is none.
+/// Reads a document of TOML v1.1.0. None if the text is not one, nests more than 80 deep, or has an integer outside 64
+/// bits.
+///
+/// # Errors
+///
+/// `AllocError`: memory ran out, or there are more than 2^32 - 2 parts, or their names take 2^32 bytes or more.
 pub fn read(alloc: Global, s: &str) -> Result<Option<Keys<'_>>, AllocError>
     ensures { IfOk result (λ found. IsDocument s.now found) }
 {

@@ -40,7 +40,7 @@ fn pass_dots(keys: &mut Keys, part: u32) -> Result<u32, ParseError>
 }
 
 // The table of a name on a header's path; it is made if it is missing.
-fn enter_header(keys: &mut Keys, table: u32, name: &[u8]) -> Result<u32, ParseError>
+fn enter_header(keys: &mut Keys, table: u32, name: &str) -> Result<u32, ParseError>
     ensures { (depth : ℕ) → Enters depth (row_of keys.old) (row_of keys.new) table name.now (mark_header name.now)
         result }
 {
@@ -54,7 +54,7 @@ fn enter_header(keys: &mut Keys, table: u32, name: &[u8]) -> Result<u32, ParseEr
 }
 
 // The same of a dotted key.
-fn enter_dots(keys: &mut Keys, table: u32, name: &[u8]) -> Result<u32, ParseError>
+fn enter_dots(keys: &mut Keys, table: u32, name: &str) -> Result<u32, ParseError>
     ensures { (depth : ℕ) → Enters depth (row_of keys.old) (row_of keys.new) table name.now (mark_dots name.now)
         result }
 {
@@ -75,7 +75,7 @@ fn through_header(keys: &mut Keys, table: u32, path: &[String]) -> Result<u32, P
     let [name, rest @ ..] = path else {
         return Ok(table);
     };
-    let inner = enter_header(keys, table, name.as_bytes())?;
+    let inner = enter_header(keys, table, name.as_str())?;
     let end = through_header(keys, inner, rest)?;
     Ok(end)
 }
@@ -88,7 +88,7 @@ fn through_dots(keys: &mut Keys, table: u32, path: &[String]) -> Result<u32, Par
     let [name, rest @ ..] = path else {
         return Ok(table);
     };
-    let inner = enter_dots(keys, table, name.as_bytes())?;
+    let inner = enter_dots(keys, table, name.as_str())?;
     let end = through_dots(keys, inner, rest)?;
     Ok(end)
 }
@@ -97,7 +97,7 @@ fn through_dots(keys: &mut Keys, table: u32, path: &[String]) -> Result<u32, Par
 fn define_value<'s>(
     keys: &mut Keys<'s>,
     table: u32,
-    name: &[u8],
+    name: &str,
     text: &'s str,
 ) -> Result<(), ParseError>
     ensures { (depth : ℕ) → Edits depth (row_of keys.old) (row_of keys.new) table
@@ -124,12 +124,12 @@ pub(crate) fn put<'s>(
         (put (key_view key.now) (data_at depth text.now)) result }
 {
     let inner = through_dots(keys, table, &key.path)?;
-    define_value(keys, inner, key.last.as_bytes(), text)?;
+    define_value(keys, inner, key.last.as_str(), text)?;
     Ok(())
 }
 
 // A header may name a table that other headers only passed through.
-fn define_table(keys: &mut Keys, table: u32, name: &[u8]) -> Result<u32, ParseError>
+fn define_table(keys: &mut Keys, table: u32, name: &str) -> Result<u32, ParseError>
     ensures { (depth : ℕ) → Opens depth (row_of keys.old) (row_of keys.new) table name.now (at_key name.now std_table)
         result }
 {
@@ -150,7 +150,7 @@ pub(crate) fn open_table(keys: &mut Keys, key: &Key) -> Result<u32, ParseError>
     ensures { (depth : ℕ) → OpensAt depth (row_of keys.old) (row_of keys.new) (key_view key.now) std_table result }
 {
     let table = through_header(keys, 0, &key.path)?;
-    let opened = define_table(keys, table, key.last.as_bytes())?;
+    let opened = define_table(keys, table, key.last.as_str())?;
     Ok(opened)
 }
 
@@ -160,13 +160,13 @@ fn next_element(keys: &mut Keys, part: u32, before: u32) -> Result<u32, AllocErr
         → (row_of keys.old).named ≡ (row_of keys.old).count
         → IfOk result (λ n. NextOf (row_of keys.old) (row_of keys.new) part before n) }
 {
-    let element = keys.push(part, &[], What::Element(before))?;
+    let element = keys.push(part, "", What::Element(before))?;
     keys.set(part, What::Tables(element));
     Ok(element)
 }
 
 // A header in double brackets adds an element to an array of tables.
-fn define_element(keys: &mut Keys, table: u32, name: &[u8]) -> Result<u32, ParseError>
+fn define_element(keys: &mut Keys, table: u32, name: &str) -> Result<u32, ParseError>
     ensures { (depth : ℕ) → Opens depth (row_of keys.old) (row_of keys.new) table name.now
         (at_key name.now array_table) result }
 {
@@ -187,6 +187,6 @@ pub(crate) fn open_element(keys: &mut Keys, key: &Key) -> Result<u32, ParseError
     ensures { (depth : ℕ) → OpensAt depth (row_of keys.old) (row_of keys.new) (key_view key.now) array_table result }
 {
     let table = through_header(keys, 0, &key.path)?;
-    let opened = define_element(keys, table, key.last.as_bytes())?;
+    let opened = define_element(keys, table, key.last.as_str())?;
     Ok(opened)
 }

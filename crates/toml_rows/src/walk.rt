@@ -24,8 +24,8 @@ pub enum Found<'s> {
 }
 
 impl<'s> Keys<'s> {
-    /// Looks for a name in a table. Takes no memory.
-    pub fn get(&self, table: u32, name: &[u8]) -> Option<Found<'s>>
+    /// Looks for a name in a table; None if the table does not have it. Takes no memory.
+    pub fn get(&self, table: u32, name: &str) -> Option<Found<'s>>
         ensures { (depth : ℕ) (ms : Members) → IsTable depth (row_of self.now) table ms
             → Finds depth (row_of self.now) result (get_member name.now ms) }
     {
@@ -57,8 +57,9 @@ impl<'s> Keys<'s> {
         }
     }
 
-    /// Gives the first name of a table, in the byte order of the names, that is none of these. Takes no memory.
-    pub fn first_unknown(&self, table: u32, known: &[&str]) -> Option<&[u8]>
+    /// Gives the first name of a table, in the byte order of the names, that is none of these; None if there is no such
+    /// name. Takes no memory.
+    pub fn first_unknown(&self, table: u32, known: &[&str]) -> Option<&str>
         ensures { (depth : ℕ) (ms : Members) → IsTable depth (row_of self.now) table ms
             → option_map (λ name. name.now) result
             ≡ first_unknown (knows known.now) ms }
@@ -164,13 +165,13 @@ fn is_named(what: What) -> bool
     }
 }
 
-fn is_among(known: &[&str], name: &[u8]) -> bool
+fn is_among(known: &[&str], name: &str) -> bool
     ensures { result ≡ knows known.now name.now }
 {
-    known.iter().any(|k| name == k.as_bytes())
+    known.iter().any(|k| name == *k)
 }
 
-fn is_before(a: &[u8], b: &[u8]) -> bool
+fn is_before(a: &str, b: &str) -> bool
     ensures { IsTrue result ↔ IsBefore a.now b.now }
 {
     match a.cmp(b) {

@@ -10,12 +10,12 @@ returns-in_ok-opened-in-Some c ms is =
     let row = row_of c.args.document.now in
     let (d, says, at) = c.in-Some.ensures 80 ms is in
     let same : option_and_then as_table (get_member c.args.name.now ms) ≡ as_table d =
-    ap (λ n. option_and_then as_table (get_member n ms)) (sym c.as_bytes.ensures.value) ∙ ap (option_and_then as_table) at in
+    ap (option_and_then as_table) at in
     let P : Option Members → Type 0 = λ o. IsOpened row c.in_ok-opened-in-Some.opened o in
     subst P (sym same) (c.in_ok-opened-in-Some.ensures row d says)
 
 pub returns-in_ok-empty-in-None : goal.returns-in_ok-empty-in-None
 returns-in_ok-empty-in-None c ms is = (
-  empty_table 79 (row_of c.in_ok-empty-in-None.empty) c.in_ok-empty-in-None.ensures,
-  ap (λ n. option_and_then as_table (get_member n ms)) (sym c.as_bytes.ensures.value) ∙ ap (option_and_then as_table) (c.in-None.ensures 80 ms is),
+  c.in_ok-empty-in-None.ensures.table 79,
+  ap (option_and_then as_table) (c.in-None.ensures 80 ms is),
 )

@@ -5,7 +5,8 @@ use Rattle.office_base.specs.Results.{◌>>=◌}
 use Rattle.office_base.proofs.Results.{told_on}
 use Rattle.tariff.specs.declared.fault.TariffTable.TheVariants.{Storage, Transition}
 use Rattle.tariff.specs.Faults.{tariff_flaw_of}
-use Rattle.tariff.specs.Opened.{tariff_in, with_document, with_month, with_storage, with_tables, with_stored}
+use Rattle.tariff.specs.Opened.{tariff_in}
+use Rattle.tariff.proofs.TariffSteps.{with_document, with_month, with_storage, with_tables, with_stored}
 use Rattle.tariff.specs.Reading.{table_name, from_name, from_of, with_fields, with_classes, each_of, tiers_in, price_in, classes_of}
 use Rattle.tariff.proofs.RowReading.{there_is}
 use Rattle.tariff.proofs.read.read_tariff.Goals as goal
@@ -101,7 +102,7 @@ returns-in_err-prices_opened c ms is =
     let c5 : with_tables c.in_ok-from.from (unwrap_or o_s no_members) (unwrap_or o_t no_members) ≡ with_stored c.in_ok-from.from (unwrap_or o_t no_members) c.in_ok-stored.stored = ap (λ r. r >>= with_stored c.in_ok-from.from (unwrap_or o_t no_members)) (c.in_ok-stored.ensures o_s s_is) in
     let fault = c.in_err-prices_opened.field-0.0 in
     let err : c.from_residual-in_err-prices_opened.result ≡ Err fault = search rules in
-    rw err (told_on (tariff_flaw_of fault) (each_of (price_in Transition (unwrap_or o_t no_members)) (classes_of Transition)) (tariff_in ms) (λ flaw e. c1 ∙ c2 ∙ c3 ∙ c4 ∙ c5 ∙ ap (λ r. r >>= λ ps. Ok (record { from = c.in_ok-from.from; storage = c.in_ok-stored.stored; transition = ps })) e) (c.in_err-prices_opened.ensures o_t t_is))
+    rw err (told_on (tariff_flaw_of fault) (each_of (price_in Transition (unwrap_or o_t no_members)) (classes_of Transition)) (tariff_in ms) (λ flaw e. c1 ∙ c2 ∙ c3 ∙ c4 ∙ c5 ∙ ap (λ r. r >>= λ ps. Ok (record { from = c.in_ok-from.from; storage = c.in_ok-stored.stored; transition = ps })) e) (c.in_err-prices_opened.ensures.value o_t t_is))
 
 pub returns : goal.returns
 returns c ms is =
@@ -117,4 +118,4 @@ returns c ms is =
     let c3 : with_month ms c.in_ok-from.from ≡ with_storage ms c.in_ok-from.from (unwrap_or o_s no_members) = ap (λ r. r >>= with_storage ms c.in_ok-from.from) (c.in_ok-check_opened.ensures o_s s_is) in
     let c4 : with_storage ms c.in_ok-from.from (unwrap_or o_s no_members) ≡ with_tables c.in_ok-from.from (unwrap_or o_s no_members) (unwrap_or o_t no_members) = ap (λ r. r >>= with_tables c.in_ok-from.from (unwrap_or o_s no_members)) (c.in_ok-check_opened-2.ensures o_t t_is) in
     let c5 : with_tables c.in_ok-from.from (unwrap_or o_s no_members) (unwrap_or o_t no_members) ≡ with_stored c.in_ok-from.from (unwrap_or o_t no_members) c.in_ok-stored.stored = ap (λ r. r >>= with_stored c.in_ok-from.from (unwrap_or o_t no_members)) (c.in_ok-stored.ensures o_s s_is) in
-    c1 ∙ c2 ∙ c3 ∙ c4 ∙ c5 ∙ ap (λ r. r >>= λ ps. Ok (record { from = c.in_ok-from.from; storage = c.in_ok-stored.stored; transition = ps })) (c.in_ok-prices_opened.ensures o_t t_is)
+    c1 ∙ c2 ∙ c3 ∙ c4 ∙ c5 ∙ ap (λ r. r >>= λ ps. Ok (record { from = c.in_ok-from.from; storage = c.in_ok-stored.stored; transition = ps })) (c.in_ok-prices_opened.ensures.value o_t t_is)

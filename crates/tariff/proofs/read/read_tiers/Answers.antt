@@ -9,7 +9,7 @@ pub returns-in_err-tiers-in-Some : goal.returns-in_err-tiers-in-Some
 returns-in_err-tiers-in-Some c ms is =
     let (d, says, at) = c.in-Some.ensures c.args.depth ms is in
     let named : tiers_in ms c.args.class ≡ tiers_of c.args.class d =
-    ap (λ n. tiers_at c.args.class (get_member n ms)) (sym (c.as_bytes.ensures.value ∙ c.name.ensures)) ∙ ap (tiers_at c.args.class) at in
+    ap (λ n. tiers_at c.args.class (get_member n ms)) (sym c.name.ensures) ∙ ap (tiers_at c.args.class) at in
     let fault = c.in_err-tiers-in-Some.field-0.0 in
     let err : c.from_residual.result ≡ Err fault = search rules in
     rw err (told_on (tariff_flaw_of fault) (tiers_of c.args.class d) (tiers_in ms c.args.class) (λ flaw e. named ∙ e) (c.in_err-tiers-in-Some.ensures d says))
@@ -17,10 +17,10 @@ returns-in_err-tiers-in-Some c ms is =
 pub returns-in_ok-tiers-in-Some : goal.returns-in_ok-tiers-in-Some
 returns-in_ok-tiers-in-Some c ms is =
     let (d, says, at) = c.in-Some.ensures c.args.depth ms is in
-    ap (λ n. tiers_at c.args.class (get_member n ms)) (sym (c.as_bytes.ensures.value ∙ c.name.ensures)) ∙ ap (tiers_at c.args.class) at
+    ap (λ n. tiers_at c.args.class (get_member n ms)) (sym c.name.ensures) ∙ ap (tiers_at c.args.class) at
     ∙ c.in_ok-tiers-in-Some.ensures d says
 
 pub returns-in-None : goal.returns-in-None
 returns-in-None c ms is =
-    ap (λ n. tiers_at c.args.class (get_member n ms)) (sym (c.as_bytes.ensures.value ∙ c.name.ensures))
+    ap (λ n. tiers_at c.args.class (get_member n ms)) (sym c.name.ensures)
     ∙ ap (tiers_at c.args.class) (c.in-None.ensures c.args.depth ms is)

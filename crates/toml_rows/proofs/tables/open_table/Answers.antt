@@ -20,7 +20,7 @@ returns-in_err-opened c depth tables elements holds =
     let path = path_view c.deref.result.now in
     let e = (c.in_ok-table.ensures depth tables elements [] holds at_root).1 in
     match_err c.from_residual-in_err-opened.result _ _ c.in_err-opened.field-0.0 _ c.from_residual-in_err-opened.ensures.1 (λ y q. q) λ refused.
-    open_no_key (path_view key.path.items) path (string_bytes key.last) c.as_bytes.result.now (ap path_view c.deref.ensures.value) c.as_bytes.ensures.value
+    open_no_key (path_view key.path.items) path (string_bytes key.last) c.as_str.result.now (ap path_view c.deref.ensures.value) c.as_str.ensures.value
     depth (row_of c.through_header.new.keys) c.in_ok-table.table (tables 0) std_table e
     (c.in_err-opened.ensures depth e.tables e.elements ([] ++ path) e.holds e.leads refused)
 
@@ -29,6 +29,6 @@ returns c depth tables elements holds =
     let key = c.args.key.now in
     let path = path_view c.deref.result.now in
     let e = (c.in_ok-table.ensures depth tables elements [] holds at_root).1 in
-    open_all (path_view key.path.items) path (string_bytes key.last) c.as_bytes.result.now (ap path_view c.deref.ensures.value) c.as_bytes.ensures.value
+    open_all (path_view key.path.items) path (string_bytes key.last) c.as_str.result.now (ap path_view c.deref.ensures.value) c.as_str.ensures.value
     depth (row_of c.through_header.new.keys) (row_of c.define_table.new.keys) c.in_ok-table.table c.in_ok-opened.opened (tables 0) std_table e
     (c.in_ok-opened.ensures depth e.tables e.elements ([] ++ path) e.holds e.leads)

@@ -19,7 +19,7 @@ returns-in_err-define_value c depth tables elements p holds leads =
     let path = path_view c.deref.result.now in
     let e = (c.in_ok-inner.ensures depth tables elements p holds leads).1 in
     match_err c.from_residual-in_err-define_value.result _ _ c.in_err-define_value.field-0.0 _ c.from_residual-in_err-define_value.ensures.1 (λ y q. q) λ refused.
-    put_no_key (path_view key.path.items) path (string_bytes key.last) c.as_bytes.result.now (ap path_view c.deref.ensures.value) c.as_bytes.ensures.value
+    put_no_key (path_view key.path.items) path (string_bytes key.last) c.as_str.result.now (ap path_view c.deref.ensures.value) c.as_str.ensures.value
     depth (row_of c.through_dots.new.keys) p c.in_ok-inner.inner (tables 0) (data_at depth c.args.text.now) e
     (c.in_err-define_value.ensures depth e.tables e.elements (p ++ path) e.holds e.leads refused)
 
@@ -29,7 +29,7 @@ returns c depth tables elements p holds leads =
     let path = path_view c.deref.result.now in
     let both = c.in_ok-inner.ensures depth tables elements p holds leads in
     let e = both.1 in
-    put_all (path_view key.path.items) path (string_bytes key.last) c.as_bytes.result.now (ap path_view c.deref.ensures.value) c.as_bytes.ensures.value
+    put_all (path_view key.path.items) path (string_bytes key.last) c.as_str.result.now (ap path_view c.deref.ensures.value) c.as_str.ensures.value
     depth (row_of c.args.keys.now) (row_of c.through_dots.new.keys) (row_of c.define_value.new.keys) p c.args.table c.in_ok-inner.inner (tables 0)
     (data_at depth c.args.text.now) leads both.0 e
     (c.in_ok-define_value.ensures depth e.tables e.elements (p ++ path) e.holds e.leads)
