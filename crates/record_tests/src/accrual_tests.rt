@@ -142,12 +142,12 @@ fn a_transition(rt: HostRuntime) {
     let meters = after(&rt, rt.alloc(), first, second);
     let january = month(&rt, 2024, 1);
     let t = moment(&rt, 1_705_233_600_000);
-    let standard = meters.reading(january, Class::Standard, t);
-    let warm = meters.reading(january, Class::StandardIa, t);
-    assert_eq!(rt;
-        (standard, warm),
-        (777_600_000_000_000, 388_800_000_000_000)
+    let found = (
+        meters.reading(january, Class::Standard, t),
+        meters.reading(january, Class::StandardIa, t),
     );
+    let wanted = (777_600_000_000_000, 388_800_000_000_000);
+    equal(&rt, &"January 2024", &found, &wanted);
 }
 
 // The bytes, the days in the class, and the early-deletion quantity in byte-milliseconds.
@@ -305,7 +305,7 @@ fn sums_of_stays(rt: HostRuntime) {
     for (index, (first, second, wanted)) in SUMS.iter().enumerate() {
         let meters = after(&rt, rt.alloc(), *first, *second);
         let sums = meters.sums().expect(&rt, "memory");
-        assert!(rt; are_ended(&rt, &sums, wanted), "{index}");
+        equal(&rt, &index, &are_ended(&rt, &sums, wanted), &true);
     }
 }
 
@@ -352,7 +352,7 @@ fn told(meters: &Meters, month: Month, class: Class, t: Moment) -> (u128, u128, 
 #[test]
 fn meters_that_go_on(rt: HostRuntime) {
     let again = of_february(&rt, rt.alloc());
-    assert_eq!(rt; again.booked(), 0);
+    equal(&rt, &"booked", &again.booked(), &0);
     let t = day(&rt, 101);
     for (number, class, used, owed, moves) in &GONE_ON {
         let told = told(&again, month(&rt, 2024, *number), *class, t);

@@ -291,11 +291,17 @@ fn listed(rt: &impl Abort, alloc: Global, row: &Row) -> Vec<(ActionKind, u32, u6
 
 const MOVED: (ActionKind, u32, u64) = (ActionKind::Transition(Class::StandardIa), 1, DUE);
 
-// A transition and an expiration that are due at one midnight, in their order: the S3 User Guide's conflicting rules.
+// The number of a row, and a transition and an expiration that are due at one midnight, in their order: the S3 User
+// Guide's conflicting rules.
+const LISTED: [(usize, &[(ActionKind, u32, u64)]); 2] = [
+    (2, &[(ActionKind::Remove, 2, DUE), MOVED]),
+    (3, &[MOVED, (ActionKind::Marker, 2, DUE)]),
+];
+
 #[test]
 fn what_is_listed(rt: HostRuntime) {
-    let removed = listed(&rt, rt.alloc(), &ROWS[2]);
-    assert_eq!(rt; &removed[..], &[(ActionKind::Remove, 2, DUE), MOVED][..]);
-    let marked = listed(&rt, rt.alloc(), &ROWS[3]);
-    assert_eq!(rt; &marked[..], &[MOVED, (ActionKind::Marker, 2, DUE)][..]);
+    for (row, wanted) in &LISTED {
+        let listed = listed(&rt, rt.alloc(), &ROWS[*row]);
+        assert!(rt; listed.as_slice() == *wanted, "{row}");
+    }
 }

@@ -23,13 +23,17 @@ fn name(rt: &impl Abort, alloc: Global, text: &str) -> BucketName {
     BucketName::read(alloc, text).expect(rt, "a name")
 }
 
+// Whether a name and its copy have this text.
+fn is_kept(rt: &impl Abort, name: &BucketName, text: &str) -> bool {
+    let copy = name.copy().expect(rt, "memory");
+    name.text() == text && copy.text() == text
+}
+
 #[test]
 fn names_in_range(rt: HostRuntime) {
     for text in &NAMES {
         let name = name(&rt, rt.alloc(), text);
-        assert_eq!(rt; name.text(), *text);
-        let copy = name.copy().expect(&rt, "memory");
-        assert_eq!(rt; copy.text(), *text);
+        equal(&rt, text, &is_kept(&rt, &name, text), &true);
     }
 }
 
@@ -78,13 +82,17 @@ fn names_in_the_order_of_their_bytes(rt: HostRuntime) {
 
 const KEYS: [&[u8]; 4] = [b"/", b"logs/2024.txt", b"gr\xc3\xbcn", &[b'k'; 1_024]];
 
+// Whether a key has these bytes, and equals its copy.
+fn is_same_key(rt: &impl Abort, key: &Key, bytes: &[u8]) -> bool {
+    let copy = key.copy().expect(rt, "memory");
+    key.bytes() == bytes && copy == *key
+}
+
 #[test]
 fn keys_in_range(rt: HostRuntime) {
     for bytes in &KEYS {
         let key = key(&rt, rt.alloc(), bytes);
-        assert_eq!(rt; key.bytes(), *bytes);
-        let copy = key.copy().expect(&rt, "memory");
-        assert!(rt; copy == key, "a key of {} bytes", bytes.len());
+        equal(&rt, &bytes.len(), &is_same_key(&rt, &key, bytes), &true);
     }
 }
 
@@ -256,7 +264,7 @@ fn lengths_of_tags(rt: HostRuntime) {
 fn texts_as_they_were_given(rt: HostRuntime) {
     let text = Text::of(text(&rt, rt.alloc(), "logs/ä"));
     let copy = text.copy().expect(&rt, "memory");
-    assert_eq!(rt; (copy.as_str(), text.char_count()), ("logs/ä", 6));
+    assert!(rt; copy.as_str() == "logs/ä" && text.char_count() == 6);
 }
 
 fn list(rt: &impl Abort, alloc: Global, given: &[Pair]) -> TagList {
@@ -269,17 +277,17 @@ fn lists_of_tags(rt: HostRuntime) {
     let list = list(&rt, rt.alloc(), &wanted);
     let copy = list.copy().expect(&rt, "memory");
     assert!(rt; are(copy.pairs(), &wanted));
-    assert_eq!(rt; list.are_tags(), true);
+    assert!(rt; list.are_tags());
 }
 
 #[test]
 fn lists_that_are_no_tags(rt: HostRuntime) {
     let repeated = list(&rt, rt.alloc(), &[("a", "x"), ("a", "y")]);
-    assert_eq!(rt; (repeated.are_tags(), repeated.is_empty()), (false, false));
+    assert!(rt; !repeated.are_tags() && !repeated.is_empty());
 }
 
 #[test]
 fn items_as_they_were_given(rt: HostRuntime) {
     let items = Items::of(vec![in rt.alloc(); 3u32, 1, 2].expect(&rt, "memory"));
-    assert_eq!(rt; items.as_slice(), [3u32, 1, 2].as_slice());
+    assert!(rt; items.as_slice() == [3u32, 1, 2].as_slice());
 }

@@ -29,22 +29,28 @@ const TOKENS: [(&[u8], bool); 14] = [
     (SIXTY_FIVE, false),
 ];
 
+// Whether a token, if there is one, has these bytes.
+fn has_bytes(token: &Option<Token>, bytes: &[u8]) -> Option<bool> {
+    match token {
+        Some(token) => Some(token.bytes() == bytes),
+        None => None,
+    }
+}
+
 #[test]
 fn tokens_are_visible_bytes(rt: HostRuntime) {
     for (bytes, is_token) in &TOKENS {
-        match Token::read(rt.alloc(), bytes).expect(&rt, "memory") {
-            Some(token) => {
-                assert!(rt; *is_token, "{bytes:?}");
-                assert_eq!(rt; token.bytes(), *bytes);
-            }
-            None => assert!(rt; !*is_token, "{bytes:?}"),
-        }
+        let read = Token::read(rt.alloc(), bytes).expect(&rt, "memory");
+        let wanted = if *is_token { Some(true) } else { None };
+        equal(&rt, bytes, &has_bytes(&read, bytes), &wanted);
     }
 }
 
 fn token(rt: &impl Abort, alloc: Global, bytes: &[u8]) -> Token {
-    let read = Token::read(alloc, bytes).expect(rt, "memory");
-    read.expect(rt, "a token")
+    match Token::read(alloc, bytes) {
+        Ok(Some(token)) => token,
+        _ => panic!(rt; "no token"),
+    }
 }
 
 // Two tokens, and whether they are the same.
@@ -176,13 +182,27 @@ const KINDS: [(Wish, u8, bool); 22] = [
     (Wish::Close(2), 0x0F, true),
 ];
 
+// The number of a command's kind, and whether it may carry a token.
+fn kind_of(rt: &impl Abort, alloc: Global, wish: Wish) -> (u8, bool) {
+    let command = wished(rt, alloc, wish);
+    (command.kind(), command.takes_token())
+}
+
 #[test]
 fn kinds_of_commands(rt: HostRuntime) {
     for (wish, kind, takes_token) in &KINDS {
-        let command = wished(&rt, rt.alloc(), *wish);
-        let told = (command.kind(), command.takes_token());
+        let told = kind_of(&rt, rt.alloc(), *wish);
         equal(&rt, wish, &told, &(*kind, *takes_token));
     }
+}
+
+fn copied(rt: &impl Abort, alloc: Global, wish: Wish) -> Command {
+    wished(rt, alloc, wish).copy().expect(rt, "memory")
+}
+
+// Whether two commands are equal.
+fn are_same(rt: &impl Abort, alloc: Global, one: Wish, other: Command) -> bool {
+    wished(rt, alloc, one).is_same(&other)
 }
 
 // A command that may carry a token equals itself and its copy, and no other one of the table.
@@ -190,13 +210,12 @@ fn kinds_of_commands(rt: HostRuntime) {
 fn commands_that_are_the_same(rt: HostRuntime) {
     let alloc = rt.alloc();
     for (place, (wish, _, takes_token)) in KINDS.iter().enumerate() {
-        let one = wished(&rt, alloc, *wish);
-        let copy = one.copy().expect(&rt, "memory");
-        equal(&rt, wish, &one.is_same(&copy), takes_token);
+        let found = are_same(&rt, alloc, *wish, copied(&rt, alloc, *wish));
+        equal(&rt, wish, &found, takes_token);
         for (at, (asked, _, _)) in KINDS.iter().enumerate() {
-            let other = wished(&rt, alloc, *asked);
-            let are_same = at == place && *takes_token;
-            equal(&rt, &(place, at), &one.is_same(&other), &are_same);
+            let found = are_same(&rt, alloc, *wish, wished(&rt, alloc, *asked));
+            let wanted = at == place && *takes_token;
+            equal(&rt, &(place, at), &found, &wanted);
         }
     }
 }
@@ -281,20 +300,23 @@ fn stored(is_null: bool, number: u64) -> Said {
     }
 }
 
+// The reply that is kept of a command with a token.
+fn reply_kept(rt: &impl Abort, alloc: Global, wish: Wish, marker: bool, told: u64) -> Reply {
+    let kept = Kept {
+        token: token(rt, alloc, b"t1"),
+        moment: moment(rt, MARCH),
+        marker,
+        told,
+        command: wished(rt, alloc, wish),
+    };
+    kept.reply().expect(rt, "memory")
+}
+
 #[test]
 fn a_kept_reply_is_given_again(rt: HostRuntime) {
-    let alloc = rt.alloc();
     for (index, (wish, marker, told, wanted)) in KEPT.iter().enumerate() {
-        let kept = Kept {
-            token: token(&rt, alloc, b"t1"),
-            moment: moment(&rt, MARCH),
-            marker: *marker,
-            told: *told,
-            command: wished(&rt, alloc, *wish),
-        };
-        let reply = kept.reply().expect(&rt, "memory");
-        equal(&rt, &index, &told_by(&reply), wanted);
-        let again = (marker_told(&reply), number_told(&reply));
-        equal(&rt, &index, &again, &(*marker, *told));
+        let reply = reply_kept(&rt, rt.alloc(), *wish, *marker, *told);
+        let found = (told_by(&reply), marker_told(&reply), number_told(&reply));
+        equal(&rt, &index, &found, &(*wanted, *marker, *told));
     }
 }

@@ -4,7 +4,7 @@ ghost use Rattle.rules_core.specs.Configurations.{has_midnights};
 
 use crate::given::{Pair, equal, key, pairs, size, tags, text};
 use class_rules::Class;
-use office_base::{Items, TagList, Text};
+use office_base::{Items, Key, Size, TagList, Tags, Text};
 use rules_core::{
     Expiration, Filter, Rule, RuleFlaw, RuleRefusal, RuleSet, SizeMode, matches, matches_marker,
     matches_upload, size_admits,
@@ -68,6 +68,14 @@ const FILTERS: [(&str, &[Pair], bool); 7] = [
     ("", &[("zone", "a")], false),
 ];
 
+// Whether a filter matches an object, and a delete marker of its key.
+fn matched_by(filter: &Filter, key: &Key, tags: &Tags, size: Size) -> (bool, bool) {
+    (
+        matches(filter, key, tags, size),
+        matches_marker(filter, key),
+    )
+}
+
 // The S3 User Guide, "Adding filters to Lifecycle rules".
 #[test]
 fn filters_and_what_they_match(rt: HostRuntime) {
@@ -75,17 +83,14 @@ fn filters_and_what_they_match(rt: HostRuntime) {
     let key = key(&rt, alloc, b"logs/a");
     let tags = tags(&rt, alloc, &RAW);
     for (index, (prefix, wanted, matched)) in FILTERS.iter().enumerate() {
-        let filter = filter(&rt, alloc, prefix, wanted);
-        let told = (
-            matches(&filter, &key, &tags, size(&rt, 100)),
-            matches_marker(&filter, &key),
+        let told = matched_by(
+            &filter(&rt, alloc, prefix, wanted),
+            &key,
+            &tags,
+            size(&rt, 100),
         );
-        equal(
-            &rt,
-            &index,
-            &told,
-            &(*matched, *matched && wanted.is_empty()),
-        );
+        let of_marker = *matched && wanted.is_empty();
+        equal(&rt, &index, &told, &(*matched, of_marker));
     }
 }
 
@@ -162,7 +167,7 @@ fn ids_are_filled_in(rt: HostRuntime) {
     let rules = rules(&rt, rt.alloc(), &["a", "", ""]);
     let set = RuleSet::check(rt.alloc(), rules, SizeMode::Varies).expect(&rt, "rules");
     let copy = set.copy().expect(&rt, "memory");
-    assert_eq!(rt; copy.mode(), SizeMode::Varies);
+    equal(&rt, &"the mode", &copy.mode(), &SizeMode::Varies);
     assert!(rt; have_ids(copy.rules(), &["a", "rule-2", "rule-3"]));
 }
 
@@ -170,21 +175,20 @@ fn refusal(rt: &impl Abort, alloc: Global, ids: &[&str]) -> Option<RuleRefusal> 
     RuleSet::check(alloc, rules(rt, alloc, ids), SizeMode::All128K).err()
 }
 
-// 1,001 rules; and rules of which two have the same id, after a missing one is filled in.
+// 1,001 rules, and rules of which two have the same id after a missing one is filled in: their ids, the flaw, and the
+// rule that has it.
+const FLAWS: [(&[&str], RuleFlaw, u32); 2] = [
+    (&[""; 1_001], RuleFlaw::TooManyRules, 0),
+    (&["", "b", "rule-1"], RuleFlaw::DoubleId, 3),
+];
+
 #[test]
 fn rules_that_are_refused(rt: HostRuntime) {
-    assert_eq!(rt;
-        refusal(&rt, rt.alloc(), &[""; 1_001]),
-        Some(RuleRefusal::Flaw {
-            flaw: RuleFlaw::TooManyRules,
-            rule: 0
-        })
-    );
-    assert_eq!(rt;
-        refusal(&rt, rt.alloc(), &["", "b", "rule-1"]),
-        Some(RuleRefusal::Flaw {
-            flaw: RuleFlaw::DoubleId,
-            rule: 3
-        })
-    );
+    for (ids, flaw, rule) in &FLAWS {
+        let wanted = RuleRefusal::Flaw {
+            flaw: *flaw,
+            rule: *rule,
+        };
+        equal(&rt, rule, &refusal(&rt, rt.alloc(), ids), &Some(wanted));
+    }
 }

@@ -169,7 +169,7 @@ fn step(
 ) -> Option<Row> {
     let at = day(rt, today);
     let gone = done(rt, alloc, stack, change, at);
-    assert_eq!(rt; stack.changed(), at);
+    equal(rt, &today, &stack.changed(), &at);
     match gone {
         Some(version) => Some(row(&version)),
         None => None,
@@ -281,7 +281,7 @@ fn stacks_after_steps(rt: HostRuntime) {
         let mut stack = Stack::new(rt.alloc(), day(&rt, 0));
         let gone = done_daily(&rt, rt.alloc(), &mut stack, case.steps);
         equal(&rt, &index, &gone, &case.gone);
-        assert!(rt; are(stack.versions(), case.rows), "{index}");
+        equal(&rt, &index, &are(stack.versions(), case.rows), &true);
     }
 }
 
@@ -328,7 +328,7 @@ fn refused_changes(rt: HostRuntime) {
         let refusal = refusal(&rt, rt.alloc(), &mut stack, *change, day(&rt, 2));
         equal(&rt, &index, &refusal, &Some(*wanted));
     }
-    assert_eq!(rt; stack.changed(), day(&rt, 1));
+    equal(&rt, &"changed", &stack.changed(), &day(&rt, 1));
 }
 
 // How many tags a version has, its class, and the moment at which it entered the class; none for a marker.
@@ -374,16 +374,16 @@ fn with_changes(rt: &impl Abort, alloc: Global) -> Stack {
     let mut stack = of_days(rt, alloc, 3);
     let one = tags(rt, alloc, &[("kind", "raw")]);
     let before = set_tags(rt, &mut stack, id(2), one, day(rt, 9));
-    assert_eq!(rt; before, Ok(0));
+    equal(rt, &"tags", &before, &Ok(0));
     let before = move_class(rt, &mut stack, id(1), Class::Glacier, day(rt, 9));
-    assert_eq!(rt; before, Ok(Class::StandardIa));
+    equal(rt, &"class", &before, &Ok(Class::StandardIa));
     stack
 }
 
 #[test]
 fn tags_and_classes(rt: HostRuntime) {
     let stack = with_changes(&rt, rt.alloc());
-    assert_eq!(rt; stack.changed(), day(&rt, 9));
+    equal(&rt, &"changed", &stack.changed(), &day(&rt, 9));
     assert!(rt; are_told(stack.versions(), &CHANGED));
 }
 
@@ -403,7 +403,8 @@ fn are_falling(versions: &[Version], from: u64) -> bool {
 fn many_versions(rt: HostRuntime) {
     let stack = of_days(&rt, rt.alloc(), 300);
     let copy = stack.copy().expect(&rt, "memory");
-    assert_eq!(rt; (stack.versions().len(), copy.versions().len()), (300, 300));
+    let counts = (stack.versions().len(), copy.versions().len());
+    equal(&rt, &"counts", &counts, &(300, 300));
     assert!(rt; are_falling(stack.versions(), 300));
 }
 
@@ -419,7 +420,7 @@ fn many_removals(rt: HostRuntime) {
             &Some((oldest, false, oldest, oldest + 1)),
         );
     }
-    assert_eq!(rt; stack.versions().len(), 1);
+    equal(&rt, &"left", &stack.versions().len(), &1);
 }
 
 fn marker(number: u64, created: Moment, ceased: Moment) -> Version {

@@ -368,14 +368,17 @@ fn is_told(rt: &impl Abort, alloc: Global, bytes: &[u8], answer: &str) -> bool {
 }
 
 fn joined(rt: &impl Abort, alloc: Global, front: &str, back: &str) -> String {
-    format!(in alloc; "{front}{back}").expect(rt, "memory")
+    let mut joined = text(rt, alloc, front);
+    joined.push_str(back).expect(rt, "memory");
+    joined
 }
 
 #[test]
 fn tariffs_from_texts(rt: HostRuntime) {
     for (front, back, answer) in &TARIFFS {
         let text = joined(&rt, rt.alloc(), front, back);
-        assert!(rt; is_told(&rt, rt.alloc(), text.as_bytes(), answer), "{text}");
+        let is_so = is_told(&rt, rt.alloc(), text.as_bytes(), answer);
+        equal(&rt, &text, &is_so, &true);
     }
     assert!(rt; is_told(&rt, rt.alloc(), b"# \xff", "NotToml"));
 }
@@ -385,7 +388,10 @@ fn nested(rt: &impl Abort, alloc: Global, depth: usize) -> String {
     assert!(rt; depth < 1_000);
     let open = "[".repeat(alloc, depth).expect(rt, "memory");
     let close = "]".repeat(alloc, depth).expect(rt, "memory");
-    format!(in alloc; "a = {open}{close}").expect(rt, "memory")
+    let mut nested = text(rt, alloc, "a = ");
+    nested.push_str(&open).expect(rt, "memory");
+    nested.push_str(&close).expect(rt, "memory");
+    nested
 }
 
 const DEPTHS: [(usize, &str); 2] = [(80, "UnknownField a"), (81, "NotToml")];
@@ -394,9 +400,7 @@ const DEPTHS: [(usize, &str); 2] = [(80, "UnknownField a"), (81, "NotToml")];
 fn the_bound_of_depth(rt: HostRuntime) {
     for (depth, answer) in &DEPTHS {
         let text = nested(&rt, rt.alloc(), *depth);
-        assert!(rt;
-            is_told(&rt, rt.alloc(), text.as_bytes(), answer),
-            "{depth}"
-        );
+        let is_so = is_told(&rt, rt.alloc(), text.as_bytes(), answer);
+        equal(&rt, depth, &is_so, &true);
     }
 }

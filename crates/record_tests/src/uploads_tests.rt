@@ -1,5 +1,6 @@
 use crate::given::{day, equal, key, tags};
 use class_rules::Class;
+use moments::Moment;
 use std::alloc::Global;
 use std::collections::BTreeMap;
 use std::process::Abort;
@@ -67,26 +68,35 @@ fn put_all(rt: &impl Abort, upload: &mut Upload, cases: &[Case]) {
 fn parts_in_turn(rt: HostRuntime) {
     let mut upload = start(&rt, rt.alloc());
     put_all(&rt, &mut upload, &CASES);
-    assert_eq!(rt; upload.parts().len(), 3);
+    equal(&rt, &"parts", &upload.parts().len(), &3);
 }
 
 #[test]
 fn no_parts(rt: HostRuntime) {
     let upload = start(&rt, rt.alloc());
-    assert_eq!(rt; whole(&upload), Err(UploadRefusal::NoParts));
+    let none = Err(UploadRefusal::NoParts);
+    equal(&rt, &"no parts", &whole(&upload), &none);
+}
+
+// What a copy of an upload tells: its last change, its start, its class, and how many tags and parts it has.
+fn told_by_copy(rt: &impl Abort, upload: &Upload) -> (Moment, Moment, Class, usize, usize) {
+    let copy = upload.copy().expect(rt, "memory");
+    assert!(rt; copy.key().bytes() == b"big".as_slice());
+    (
+        copy.changed(),
+        copy.started(),
+        copy.class(),
+        copy.tags().pairs().len(),
+        copy.parts().len(),
+    )
 }
 
 #[test]
 fn what_an_upload_tells(rt: HostRuntime) {
     let mut upload = start(&rt, rt.alloc());
     let _ = put(&rt, &mut upload, 1, 1, 8);
-    let copy = upload.copy().expect(&rt, "memory");
-    assert_eq!(rt;
-        (copy.changed(), copy.started(), copy.class()),
-        (day(&rt, 8), day(&rt, 0), Class::Glacier)
-    );
-    assert_eq!(rt; copy.key().bytes(), b"big".as_slice());
-    assert_eq!(rt; (copy.tags().pairs().len(), copy.parts().len()), (0, 1));
+    let wanted = (day(&rt, 8), day(&rt, 0), Class::Glacier, 0, 1);
+    equal(&rt, &"a copy", &told_by_copy(&rt, &upload), &wanted);
 }
 
 // An upload of 1,024 parts of 5 GiB.
@@ -110,7 +120,7 @@ const MORE: [Case; 4] = [
 #[test]
 fn parts_up_to_the_largest_object(rt: HostRuntime) {
     let mut upload = largest(&rt, rt.alloc());
-    assert_eq!(rt; whole(&upload), Ok(5_120 * GIB));
+    equal(&rt, &"whole", &whole(&upload), &Ok(5_120 * GIB));
     put_all(&rt, &mut upload, &MORE);
 }
 

@@ -1,6 +1,7 @@
 ghost use Rattle.std.specs.Prelude.{◌≡◌, ◌<◌, ◌^◌};
 ghost use Rattle.office_types.specs.Reports.{charges};
 
+use crate::given::equal;
 use class_rules::Class;
 use office_base::BucketName;
 use office_types::{LineKind, Price, ReportLine};
@@ -106,9 +107,19 @@ fn is_printed(rt: &impl Abort, alloc: Global, lines: &[ReportLine], wanted: &Pri
     requires { charges lines.now < 2 ^ 128 }
 {
     let text = report_csv(alloc, lines).expect(rt, "memory");
-    assert!(rt; is_text(&text, wanted.csv), "{}", lines.len());
+    equal(
+        rt,
+        &("csv", lines.len()),
+        &is_text(&text, wanted.csv),
+        &true,
+    );
     let text = report_text(alloc, lines).expect(rt, "memory");
-    assert!(rt; is_text(&text, wanted.table), "{}", lines.len());
+    equal(
+        rt,
+        &("table", lines.len()),
+        &is_text(&text, wanted.table),
+        &true,
+    );
 }
 
 #[test]
