@@ -1,10 +1,10 @@
 // The stack of a key that had more than one version.
-ghost use Rattle.std.specs.Prelude.{◌≡◌, ◌≤◌, ◌+◌, [], ◌∷◌, IfOk, OnOk, OnErr, true, false, vec_len, vec_capacity};
+ghost use Rattle.std.specs.Prelude.{◌≡◌, ◌≤◌, IfOk, OnOk, OnErr, true, false};
 ghost use Rattle.std.specs.Bool.{IsTrue};
 ghost use Rattle.std.specs.List.{list_any};
 ghost use Rattle.office_base.specs.declared.version_id.VersionId.{VersionId};
 ghost use Rattle.stacks.specs.Stacks.{StackRecord, stack_of, has_id, new_stack, is_stack, IsStack};
-ghost use Rattle.stacks.specs.Stacks.{new_version, is_entered_until, found, version_at, tags_at};
+ghost use Rattle.stacks.specs.Stacks.{is_entered_until, found, version_at, tags_at};
 ghost use Rattle.stacks.specs.Ceasing.{cease_in_order};
 ghost use Rattle.stacks.specs.Stacks.{class_at, after_adding, after_removal, after_tags, after_move};
 

@@ -1,8 +1,8 @@
 // The only version of a key, and what a change of its stack does to it.
-ghost use Rattle.std.specs.Prelude.{◌≡◌, ◌≤◌, ◌+◌, [], ◌∷◌, IfOk, OnOk, OnErr, Some, true, false, vec_len, vec_capacity};
+ghost use Rattle.std.specs.Prelude.{◌≡◌, ◌≤◌, ◌+◌, [], ◌∷◌, IfOk, OnOk, OnErr, true, false, vec_len, vec_capacity};
 ghost use Rattle.std.specs.Bool.{IsTrue};
 ghost use Rattle.stacks.specs.Stacks.{stack_of, has_id, is_stack, is_entered_until, found, tags_at, class_at};
-ghost use Rattle.stacks.specs.Stacks.{without, changed_at, with_tags, with_class, after_adding, new_version};
+ghost use Rattle.stacks.specs.Stacks.{without, changed_at, with_tags, with_class, after_adding};
 
 use crate::StackRefusal;
 use crate::listed::Listed;
