@@ -1,20 +1,17 @@
 -- The prices of a table, class by class.
-use Rattle.std.proofs.Common.{◌≡◌, ◌∙◌, ap, ap₂, refl, ℕ, zero, suc, ◌&&◌, pos, negsuc, ◌+◌, ◌<◌, Bool, true, false, cond, List, [], ◌∷◌, ◌++◌, length, get_or, drop}
-use Rattle.std.proofs.Common.{Option, Some, None, Result, Ok, Err, ok_or, arith, append-nil}
+use Rattle.std.proofs.Common.{◌≡◌, ◌∙◌, ap, ap₂, ℕ, zero, suc, ◌&&◌, ◌+◌, ◌<◌, true, List, [], ◌∷◌, ◌++◌, length, get_or, drop}
+use Rattle.std.proofs.Common.{Result, Ok, Err, arith, append-nil}
 use Rattle.std.proofs.lemmas.List.{drop_more, drop_all}
 use Rattle.std.proofs.lemmas.Bool.{and_parts}
 use Rattle.std.proofs.Math.ListN.{set}
 use Rattle.std.specs.List.{list_all}
-use Rattle.toml.specs.Data.{Data, string, integer, float, boolean, datetime, array, table, Members, get_member}
-use Rattle.class_rules.specs.Classes.{class_name}
 use Rattle.class_rules.specs.declared.class.Class.{Class}
 use Rattle.office_base.specs.Results.{◌>>=◌}
 use Rattle.office_base.proofs.Results.{joined, joined-push, told_on}
-use Rattle.tariff.specs.declared.fault.TariffTable.{TariffTable}
 use Rattle.tariff.specs.declared.fault.TariffFault.{TariffFault}
-use Rattle.tariff.specs.Faults.{TariffFlaw, bad_price, tariff_flaw_of, TariffGives}
+use Rattle.tariff.specs.Faults.{TariffFlaw, tariff_flaw_of, TariffGives}
 use Rattle.tariff.specs.Prices.{is_price}
-use Rattle.tariff.specs.Reading.{price_of, price_at, price_in, each_of}
+use Rattle.tariff.specs.Reading.{each_of}
 
 module _ {X : Type 0} (read : Class → Result X TariffFlaw) where
   each_from : (classes : List Class) (i : ℕ) (d : Class) → i < length classes

@@ -1,7 +1,6 @@
-use Rattle.std.proofs.Common.{◌≡◌, ◌∙◌, sym, ap, subst, Option, option_and_then}
+use Rattle.std.proofs.Common.{◌≡◌, sym, ap, subst, Option, option_and_then}
 use Rattle.toml.specs.Data.{Members, as_table, get_member}
 use Rattle.toml_rows.specs.Rows.{row_of}
-use Rattle.toml_rows.proofs.LoopLemmas.{empty_table}
 use Rattle.tariff.specs.Opened.{IsOpened}
 use Rattle.tariff.proofs.read.open.Goals as goal
 

@@ -1,9 +1,7 @@
 use Rattle.std.proofs.Common.{◌∙◌, ap, None}
 use Rattle.toml.specs.Data.{as_table}
-use Rattle.toml_rows.specs.Rows.{row_of}
 use Rattle.toml_rows.specs.Walking.{Says, IsInline}
 use Rattle.toml_rows.specs.declared.walk.Found.TheVariants as found
-use Rattle.toml_rows.proofs.LoopLemmas.{empty_table}
 use Rattle.tariff.proofs.read.open_found.Goals as goal
 
 pub returns-in_ok-empty-in-None : goal.returns-in_ok-empty-in-None

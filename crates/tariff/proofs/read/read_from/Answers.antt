@@ -1,6 +1,5 @@
 use Rattle.std.proofs.Common.{Ok, ok_or, ap, sym, ◌∙◌}
 use Rattle.toml_rows.specs.Rows.{row_of}
-use Rattle.toml.specs.Data.{get_member}
 use Rattle.tariff.specs.Faults.{bad_from}
 use Rattle.tariff.specs.Reading.{from_of}
 use Rattle.tariff.proofs.read.read_from.Goals as goal

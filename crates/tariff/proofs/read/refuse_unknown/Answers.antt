@@ -1,4 +1,4 @@
-use Rattle.std.proofs.Common.{◌≡◌, Some, ap, sym}
+use Rattle.std.proofs.Common.{ap, sym}
 use Rattle.toml_rows.specs.Walking.{knows, first_unknown}
 use Rattle.tariff.specs.Reading.{unless_other}
 use Rattle.tariff.proofs.RowReading.{refuse}
