@@ -14,12 +14,12 @@ use Rattle.http_text.specs.declared.pieces.Left.{Left}
 use Rattle.http_text.specs.declared.pieces.Left.TheVariants.{All, Later, Nothing}
 use Rattle.http_text.specs.declared.pieces.StackPieces.{StackPieces}
 
--- the current version, which is the first
+-- the current version, which is the first; nothing if there is no version
 abbrev pub first_text : List Version → List ℕ
 first_text [] = []
 first_text (current ∷ noncurrent) = version_text None current
 
--- noncurrent versions, and the end of their list
+-- noncurrent versions, each after a comma, and the end of their list
 abbrev pub later_text : List Version → List ℕ
 later_text versions = items_text true (items_of (map noncurrent_version versions))
 
@@ -39,16 +39,17 @@ left_text key stack size All = head_text 200 size ++ body_text (Ok (StackShown k
 left_text key stack size (Later versions) = rest_text versions.now
 left_text key stack size Nothing = []
 
--- what is left of the pieces
+-- the text that is left
 abbrev pub pieces_left : StackPieces → List ℕ
 pieces_left pieces = left_text pieces.key.now pieces.stack.now pieces.size pieces.left
 
--- no fewer than the pieces that are left
+-- a bound on how many pieces are left, given how many versions the key has
 abbrev pub left_count : ℕ → Left → ℕ
-left_count versions All = versions + 2
-left_count versions (Later left) = length left.now + 1
-left_count versions Nothing = 0
+left_count count All = count + 2
+left_count count (Later left) = length left.now + 1
+left_count count Nothing = 0
 
+-- a bound on how many pieces are left
 abbrev pub pieces_count : StackPieces → ℕ
 pieces_count pieces = left_count (length pieces.stack.now.versions) pieces.left
 

@@ -73,7 +73,8 @@ fn noncurrent(versions: &[Version]) -> &[Version]
     }
 }
 
-// Writes noncurrent versions from an index on, until the piece is full. Returns where it ends, and the versions left.
+// Writes noncurrent versions into a room from an index on, until the piece is full. Returns where it ends, and the
+// versions left.
 fn put_some<'a>(room: &mut [u8], at: usize, versions: &'a [Version]) -> (usize, &'a [Version])
     ensures text { (whole : List ℕ) → Begins room.old at 102_000 (rest_text versions.now) whole
         → Begins room.new result.0 127_000 (rest_text result.1.now) whole }
@@ -112,7 +113,8 @@ impl<'a> StackPieces<'a> {
         })
     }
 
-    // Writes noncurrent versions from an index on, and the end if there are no more. Returns where the piece ends.
+    // Writes noncurrent versions into a room from an index on, and the end if there are no more. Returns where the piece
+    // ends.
     fn fill(&mut self, room: &mut [u8], at: usize, versions: &'a [Version]) -> usize
         ensures text { (whole : List ℕ) → 131_072 ≤ length room.old
             → Begins room.old at 102_000 (rest_text versions.now) whole
