@@ -4,6 +4,7 @@ ghost use Rattle.std.specs.Prelude.{IfOk, OnOk, OnErr, Ok, Err, Some, None, leng
 ghost use Rattle.std.specs.List.{AllByRecursion};
 ghost use Rattle.std.specs.VecDeque.{deque_len, deque_capacity};
 ghost use Rattle.office_base.specs.Maps.{at_name, with_name};
+ghost use Rattle.office_types.specs.Kept.{number_told, reply_of, tells_marker};
 ghost use Rattle.plain_office.specs.Once.{kept_at, recalled};
 ghost use Rattle.plain_office.specs.Orderly.{AreKept};
 ghost use Rattle.kept_replies.specs.Queue.{ReplyQueue, plain_reply, plain_replies, kept_in, kept_of, with_kept, IsTold};
@@ -12,7 +13,7 @@ ghost use Rattle.kept_replies.specs.Indexed.{IsIndexed, without_held, found_at};
 use moments::Moment;
 use office_base::NoMemory;
 use office_types::{Command, Kept, Refusal, Reply, Token, marker_told, number_told};
-use std::alloc::{AllocError, Global};
+use std::alloc::Global;
 use std::collections::{BTreeMap, VecDeque};
 use std::marker::Model;
 
@@ -144,12 +145,18 @@ impl KeptReplies {
         ensures ok { OnOk result (self.new ≡ record self.old { held = Some (token.now, command.now) }) }
         ensures err { OnErr result (self.new ≡ self.old) }
     {
-        let (mine, key, command) = copies_of(token, command)?;
-        make_room(&mut self.queue)?;
+        let held = copies_of(token, command)?;
         let number = self.dropped + self.queue.len() as u64;
-        put_number(&mut self.numbers, key, number)?;
-        self.held = Some((mine, command));
-        Ok(())
+        match make_ready(&mut self.numbers, &mut self.queue, token, number) {
+            Ok(()) => {
+                drop(self.held.replace(held));
+                Ok(())
+            }
+            Err(error) => {
+                drop(held);
+                Err(error)
+            }
+        }
     }
 
     /// Drops the held token and its command, if the command was not accepted. Takes no memory.
@@ -160,6 +167,7 @@ impl KeptReplies {
     {
         let held = self.held.take();
         drop_number(&mut self.numbers, &held);
+        drop(held);
     }
 
     /// Keeps the reply to the held command, which was accepted at the moment. If too many are then kept, the oldest is
@@ -188,14 +196,30 @@ impl KeptReplies {
     }
 }
 
-// Two copies of a token, and one of its command.
-fn copies_of(token: &Token, command: &Command) -> Result<(Token, Token, Command), NoMemory>
-    ensures { IfOk result (λ x. (x.0 ≡ token.now) × (x.1 ≡ token.now) × (x.2 ≡ command.now)) }
+fn copies_of(token: &Token, command: &Command) -> Result<(Token, Command), NoMemory>
+    ensures { IfOk result (λ x. (x.0 ≡ token.now) × (x.1 ≡ command.now)) }
 {
-    let first = token.copy()?;
-    let second = token.copy()?;
+    let token = token.copy()?;
     let command = command.copy()?;
-    Ok((first, second, command))
+    Ok((token, command))
+}
+
+// Makes room for one more reply, and puts its number under a copy of its token.
+fn make_ready(
+    numbers: &mut BTreeMap<Token, u64>,
+    queue: &mut VecDeque<Kept>,
+    token: &Token,
+    number: u64,
+) -> Result<(), NoMemory>
+    ensures items { queue.new.items ≡ queue.old.items }
+    ensures room { OnOk result (deque_len queue.new < deque_capacity queue.new) }
+    ensures still { deque_len queue.old < deque_capacity queue.old → deque_len queue.new < deque_capacity queue.new }
+    ensures put { OnOk result (numbers.new.entries ≡ with_name token.now number numbers.old.entries) }
+    ensures same { OnErr result (numbers.new.entries ≡ numbers.old.entries) }
+{
+    let key = token.copy()?;
+    make_room(queue)?;
+    put_number(numbers, key, number)
 }
 
 // Makes room for one more reply.
@@ -304,6 +328,7 @@ fn drop_oldest(numbers: &mut BTreeMap<Token, u64>, queue: &mut VecDeque<Kept>)
 {
     if let Some(oldest) = queue.pop_front() {
         numbers.remove(&oldest.token);
+        drop(oldest);
     }
 }
 
@@ -319,26 +344,43 @@ fn take_up(
     ensures queue { OnOk result (queue.new.items ≡ queue.old.items ++ kept ∷ []) }
     ensures indexed { OnOk result (IsIndexed 0 numbers.new.entries queue.new.items) }
 {
-    let token = kept.token.copy()?;
-    make_room(queue)?;
-    put_number(numbers, token, queue.len() as u64)?;
-    queue.push_back_reserved(kept);
-    Ok(())
+    let number = queue.len() as u64;
+    match make_ready(numbers, queue, &kept.token, number) {
+        Ok(()) => {
+            queue.push_back_reserved(kept);
+            Ok(())
+        }
+        Err(error) => {
+            drop(kept);
+            Err(error)
+        }
+    }
 }
 
 // Copies a kept command, with the two parts that its reply has.
-fn copy_of(kept: &Kept) -> Result<Kept, AllocError>
+fn copy_of(kept: &Kept) -> Result<Kept, NoMemory>
     ensures same { IfOk result (λ copy. plain_reply copy ≡ plain_reply kept.now) }
     ensures told { IfOk result IsTold }
 {
-    let reply = kept.reply()?;
+    let (marker, told) = told_of(kept)?;
+    let (token, command) = copies_of(&kept.token, &kept.command)?;
     Ok(Kept {
-        token: kept.token.copy()?,
+        token,
         moment: kept.moment,
-        marker: marker_told(&reply),
-        told: number_told(&reply),
-        command: kept.command.copy()?,
+        marker,
+        told,
+        command,
     })
+}
+
+// The two parts that a kept reply has.
+fn told_of(kept: &Kept) -> Result<(bool, u64), NoMemory>
+    ensures { IfOk result (λ x. (x.0 ≡ tells_marker (reply_of kept.now)) × (x.1 ≡ number_told (reply_of kept.now))) }
+{
+    let reply = kept.reply()?;
+    let told = (marker_told(&reply), number_told(&reply));
+    drop(reply);
+    Ok(told)
 }
 
 fn copies_of_all(alloc: Global, queue: &VecDeque<Kept>) -> Result<Vec<Kept>, NoMemory>
