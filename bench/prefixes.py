@@ -2,7 +2,7 @@
 """What a configuration of many rules costs a put: python3 bench/prefixes.py PROGRAM [ROUNDS] [FOLDER]
 
 Over a journal in a new folder below FOLDER (/dev/shm) with a bucket of 100,000 keys, the program gets a configuration and then PUTS puts over keys that
-are there. The configuration has 1,000 rules, each with a prefix of its own that 100 of the keys have, or one rule that has one of these prefixes. Prints
+are there. The configuration has 1,000 rules, each with a prefix of its own that 100 of the keys have, or one rule for all keys. Prints
 the medians of both in puts a second, and of the rounds' ratios. Last comes what it takes to set each configuration, when each key is looked at anew, in
 milliseconds. The time of a run over the same journal without puts, or without requests, is taken off.
 """
@@ -41,8 +41,9 @@ def message(line, body):
 
 
 def setting(rules):
-    """The request that sets this many rules."""
-    listed = [{"ID": f"r{it}", "Status": "Enabled", "Filter": {"Prefix": f"{it:03}/"}, "Expiration": {"Days": 365 * 70}} for it in range(rules)]
+    """The request that sets this many rules: each key has one of them."""
+    prefixes = [""] if rules == 1 else [f"{it:03}/" for it in range(rules)]
+    listed = [{"ID": f"r{at}", "Status": "Enabled", "Filter": {"Prefix": it}, "Expiration": {"Days": 365 * 70}} for at, it in enumerate(prefixes)]
     return message(b"PUT /buckets/logs/lifecycle", json.dumps({"Rules": listed}, separators=(",", ":")).encode())
 
 
