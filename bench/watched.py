@@ -265,14 +265,17 @@ def command(office: Office, *words: str) -> Spent:
 
     The pipe holds a page. So the process waits, with all that it prints in memory, when its first byte has come.
     """
-    with subprocess.Popen([office.program, *words], cwd=office.folder, stdin=subprocess.DEVNULL, stdout=subprocess.PIPE) as child:
-        fcntl.fcntl(child.stdout, fcntl.F_SETPIPE_SZ, PAGE)
-        first = os.read(child.stdout.fileno(), 1)
-        most = Process(child.pid).peak() if first else 0
-        while read_some(child.stdout.fileno()):
-            pass
-        _, status, used = os.wait4(child.pid, 0)
-        child.returncode = os.waitstatus_to_exitcode(status)
+    reading, writing = os.pipe()
+    with open(reading, "rb", buffering=0) as printed:
+        fcntl.fcntl(writing, fcntl.F_SETPIPE_SZ, PAGE)  # before the process writes: a pipe that holds more cannot shrink
+        with subprocess.Popen([office.program, *words], cwd=office.folder, stdin=subprocess.DEVNULL, stdout=writing) as child:
+            os.close(writing)
+            first = os.read(printed.fileno(), 1)
+            most = Process(child.pid).peak() if first else 0
+            while read_some(printed.fileno()):
+                pass
+            _, status, used = os.wait4(child.pid, 0)
+            child.returncode = os.waitstatus_to_exitcode(status)
     if child.returncode or not first:
         raise Wrong(f"{' '.join(words)} ended with {child.returncode}" + ("" if first else ", and printed nothing"))
     return Spent(most, used.ru_utime + used.ru_stime)
