@@ -97,7 +97,6 @@ impl Forecast {
             return Err(ForecastFault::NoMemory);
         };
         let Ok(mut copy) = office.copy() else {
-            drop(act);
             return Err(ForecastFault::NoMemory);
         };
         match set_rules(&mut copy, t, bucket, rules) {
@@ -108,11 +107,7 @@ impl Forecast {
                 first: month_of(t),
                 until: u,
             }),
-            Err(fault) => {
-                drop(act);
-                drop(copy);
-                Err(fault)
-            }
+            Err(fault) => Err(fault),
         }
     }
 
@@ -208,14 +203,8 @@ fn set_rules(
     ensures fault { IfErr result (λ fault. IsOfOffice fault) }
 {
     let bucket = bucket.copy()?;
-    let command = Command::SetRules { bucket, rules };
-    let applied = office.apply(t, None, &command);
-    drop(command);
-    match applied {
-        Ok(reply) => {
-            drop(reply);
-            Ok(())
-        }
+    match office.apply(t, None, &Command::SetRules { bucket, rules }) {
+        Ok(_) => Ok(()),
         Err(refusal) => Err(fault_of(refusal)),
     }
 }
@@ -232,7 +221,6 @@ fn fault_of(refusal: Refusal) -> ForecastFault
     ensures { result ≡ fault_of refusal }
 {
     if is_wanting(&refusal) {
-        drop(refusal);
         ForecastFault::NoMemory
     } else {
         ForecastFault::Refused(refusal)
