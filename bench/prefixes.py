@@ -1,9 +1,9 @@
 #!/usr/bin/env python3
 """What a configuration of many rules costs a put: python3 bench/prefixes.py PROGRAM [ROUNDS] [FOLDER]
 
-Over a journal in a new folder below FOLDER (/dev/shm) with a bucket of 100,000 keys, the program gets a configuration and then PUTS puts over keys that
-are there. The configuration has 1,000 rules, each with a prefix of its own that 100 of the keys have, or one rule for all keys. Prints
-the medians of both in puts a second, and of the rounds' ratios. Last comes what it takes to set each configuration, when each key is looked at anew, in
+Over a journal in a new folder below FOLDER (/dev/shm) with a bucket of 100,000 keys, the program gets a configuration and then PUTS puts over keys
+that are there. The configuration has 1,000 rules, each with a prefix of its own that 100 of the keys have, or one rule for all keys. Prints the
+medians of both in puts a second, and of the rounds' ratios. Last comes what it takes to set each configuration, when each key is looked at anew, in
 milliseconds. The time of a run over the same journal without puts, or without requests, is taken off.
 """
 import json
