@@ -170,8 +170,8 @@ impl Account {
     pub fn copy(&self, alloc: Global) -> Result<Account, NoMemory>
         ensures { IfOk result (λ copy. IsCopyOf copy self.now) }
     {
-        let bucket = self.records(alloc)?;
         let meters = self.meters.copy()?;
+        let bucket = self.records(alloc)?;
         let index = DueIndex::build(alloc, &bucket).ok();
         Ok(Account {
             bucket,

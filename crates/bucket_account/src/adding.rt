@@ -133,6 +133,7 @@ fn put_on(
     let opened = kind_billed(key, &incoming.kind);
     let gone = stacked(stack, incoming)?;
     end_replaced(meters, key, &gone, at);
+    drop(gone);
     meters.open(&opened, at);
     Ok(())
 }
@@ -163,10 +164,10 @@ fn put_first(
     let at = incoming.at;
     reserve(meters, at, at)?;
     let opened = kind_billed(key, &incoming.kind);
-    let mut stack = Stack::new(alloc, at);
-    stacked(&mut stack, incoming)?;
     let kept = key.copy()?;
-    stacks.insert(kept, stack)?;
+    let mut stack = Stack::new(alloc, at);
+    drop(stacked(&mut stack, incoming)?);
+    drop(stacks.insert(kept, stack)?);
     meters.open(&opened, at);
     Ok(())
 }

@@ -26,7 +26,7 @@ fn copy_rules(rules: &Option<RuleSet>) -> Result<Option<RuleSet>, AllocError>
 fn add_copy(copies: &mut BTreeMap<Key, Stack>, key: &Key, stack: &Stack) -> Result<(), AllocError>
     ensures { OnOk result (copies.new.entries ≡ insert_entry bytes_cmp copies.old.entries key.now stack.now) }
 {
-    copies.insert(key.copy()?, stack.copy()?)?;
+    drop(copies.insert(key.copy()?, stack.copy()?)?);
     Ok(())
 }
 
@@ -53,7 +53,7 @@ fn copy_uploads(
 {
     let mut copies = BTreeMap::new(alloc);
     for (number, upload) in uploads.iter() {
-        copies.insert(*number, upload.copy()?)?;
+        drop(copies.insert(*number, upload.copy()?)?);
     }
     Ok(copies)
 }

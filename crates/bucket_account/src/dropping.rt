@@ -112,6 +112,6 @@ pub(crate) fn remove_upload(
     reserve(meters, first_put(upload, at), at)?;
     let after = without(counts, upload);
     end_parts(meters, upload, at);
-    let _ = bucket.uploads.remove(&number);
+    drop(bucket.uploads.remove(&number));
     Ok(after)
 }

@@ -103,6 +103,7 @@ fn take_off(
     reserve(meters, since, at)?;
     let gone = taken(stack, id, at);
     end_replaced(meters, key, &gone, at);
+    drop(gone);
     Ok(stack.versions().is_empty())
 }
 
@@ -182,7 +183,7 @@ fn take_version(
             if !emptied {
                 return Ok(after);
             }
-            stacks.remove(key);
+            drop(stacks.remove(key));
             Ok(after)
         }
         None => unreachable!(),

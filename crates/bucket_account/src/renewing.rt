@@ -13,6 +13,7 @@ use moments::Moment;
 use office_base::{Key, NoMemory};
 use office_types::Command;
 use std::alloc::Global;
+use std::mem;
 
 /// Renews what comes next on a key. If memory runs out, the index is dropped.
 pub(crate) fn renew_key(index: &mut Option<DueIndex>, bucket: &Bucket, key: &Key)
@@ -23,7 +24,7 @@ pub(crate) fn renew_key(index: &mut Option<DueIndex>, bucket: &Bucket, key: &Key
         return;
     };
     if kept.renew_key(bucket, key).is_err() {
-        *index = None;
+        drop(index.take());
     }
 }
 
@@ -36,7 +37,7 @@ pub(crate) fn renew_upload(index: &mut Option<DueIndex>, bucket: &Bucket, number
         return;
     };
     if kept.renew_upload(bucket, number).is_err() {
-        *index = None;
+        drop(index.take());
     }
 }
 
@@ -56,7 +57,7 @@ pub(crate) fn renew_key_of(index: &mut Option<DueIndex>, bucket: &Bucket, number
 pub(crate) fn renew_all(index: &mut Option<DueIndex>, alloc: Global, bucket: &Bucket)
     ensures stands { IfSome index.new (λ index. StandsFor index bucket.now) }
 {
-    *index = DueIndex::build(alloc, bucket).ok();
+    drop(mem::replace(index, DueIndex::build(alloc, bucket).ok()));
 }
 
 /// Renews what a command has touched in a bucket whose next upload had this number before it.

@@ -102,9 +102,7 @@ pub(crate) fn start_upload(
     let number = bucket.next_upload;
     let counts = counted(counts, key, tags)?;
     let upload = started(alloc, key, class, tags, t)?;
-    if bucket.uploads.insert(number, upload).is_err() {
-        return Err(Refusal::NoMemory);
-    }
+    drop(bucket.uploads.insert(number, upload)?);
     bucket.next_upload = number + 1;
     Ok(Done {
         counts,
@@ -203,7 +201,7 @@ pub(crate) fn complete(
     let counts = put_whole(&mut bucket.stacks, meters, alloc, kept, object, left)?;
     bucket.next_version = next_number(versioning, number);
     renew_key_of(index, bucket, upload);
-    let _ = bucket.uploads.remove(&upload);
+    drop(bucket.uploads.remove(&upload));
     renew_upload(index, bucket, upload);
     Ok(Done {
         counts,

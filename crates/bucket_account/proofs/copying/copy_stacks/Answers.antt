@@ -1,4 +1,3 @@
-use Rattle.office_base.specs.Maps.{bytes_cmp}
 use Rattle.office_laws.proofs.Maps.{by_name}
 use Rattle.bucket_account.proofs.Copied.{copied_more}
 use Rattle.bucket_account.proofs.copying.copy_stacks.Goals as goal

@@ -1,7 +1,6 @@
-use Rattle.std.proofs.Common.{◌≡◌, [], ◌∷◌, sym, ◌∙◌, subst, arith}
+use Rattle.std.proofs.Common.{[], ◌∷◌, sym, ◌∙◌, subst, arith}
 use Rattle.std.specs.Prelude.{Result}
 use Rattle.due_core.specs.Buckets.{BucketRecord}
-use Rattle.office_base.specs.Maps.{with_number}
 use Rattle.plain_office.specs.Step.{start_upload}
 use Rattle.office_types.specs.declared.refusal.Refusal.{Refusal}
 use Rattle.office_types.specs.declared.refusal.What.TheVariants.{Uploads, Names}
@@ -9,7 +8,7 @@ use Rattle.bucket_account.specs.declared.change.Done.{Done}
 use Rattle.bucket_account.specs.Changing.{DoesTold}
 use Rattle.bucket_account.specs.Counting.{AreCountsOver, account_of}
 use Rattle.bucket_account.proofs.Handed.{err_of}
-use Rattle.bucket_account.proofs.Started.{ok_of, start_done_for, start_refused_for}
+use Rattle.bucket_account.proofs.Started.{start_done_for, start_refused_for}
 use Rattle.bucket_account.proofs.upload.start_upload.Goals as goal
 
 pub counted-requires-clause-uploads : goal.counted-requires-clause-uploads
@@ -32,7 +31,5 @@ returns-clause-done c = λ account stands orderly.
     start_done_for _ account (c.bucket.view_is ∙ stands.bucket) c.args.t c.args.key.now c.args.class c.args.tags.now orderly
     c.args.counts (subst (λ (b : BucketRecord). AreCountsOver b c.args.counts) (sym c.bucket.view_is) c.requires.counts)
     c.insert.new.self.entries c.in_ok-upload.upload
-    (ok_of c.insert.result (c.insert.new.self.entries
-    ≡ with_number c.bucket.inside.next_upload c.in_ok-upload.upload c.bucket.inside.uploads.entries)
-    (sym c.is_err.ensures.value ∙ c.if-is_err.false) c.insert.ensures.entries)
+    c.in_ok-insert.ensures.entries
     c.in_ok-upload.ensures.ok c.args.meters.now stands.meters c.in_ok-counts.counts c.in_ok-counts.ensures.ok.0 c.in_ok-counts.ensures.ok.1
