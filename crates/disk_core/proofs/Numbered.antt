@@ -3,7 +3,7 @@ use Rattle.std.proofs.Common.{◌≡◌, inl, inr, ◌+◌, List, [], ◌∷◌,
 use Rattle.std.specs.Bool.{Decides}
 use Rattle.std.specs.List.{Contains}
 use Rattle.office_base.specs.Faults.{HasCause}
-use Rattle.disk_core.specs.declared.memory.DiskCall.{DiskCall}
+use Rattle.disk_core.specs.Kept.{Call}
 use Rattle.disk_core.specs.declared.memory.MemoryDisk.{MemoryDisk}
 use Rattle.disk_core.specs.Replay.{after}
 use Rattle.disk_core.specs.Memory.{IsCall}
@@ -11,13 +11,13 @@ use Rattle.disk_core.proofs.Replay.{elapses_push, elapses_untold}
 
 module _ {T E : Type 0} {old new : MemoryDisk} {result : Result T E} where
   -- a call that is kept
-  pub counted_call : (call : DiskCall) (fails : Bool) → new.calls.items ≡ old.calls.items ++ call ∷ []
+  pub counted_call : (call : Call) (fails : Bool) → new.calls ≡ old.calls ++ call ∷ []
       → new.failing.items ≡ old.failing.items → is_err result ≡ fails
-      → Decides fails (Contains old.failing.items (length old.calls.items + 1))
+      → Decides fails (Contains old.failing.items (length old.calls + 1))
       → HasCause old.faults new.faults result → OnOk result (new.faults ≡ old.faults) → IsCall old new result
   counted_call call fails kept failing is decides cause quiet =
-      let count : length new.calls.items ≡ length old.calls.items + 1 =
-      ap (λ (l : List DiskCall). length l) kept ∙ length-append old.calls.items (call ∷ []) in
+      let count : length new.calls ≡ length old.calls + 1 =
+      ap (λ (l : List Call). length l) kept ∙ length-append old.calls (call ∷ []) in
       let time = elapses_push old new call kept in
       record {
         failing = failing;
@@ -32,10 +32,10 @@ module _ {T E : Type 0} {old new : MemoryDisk} {result : Result T E} where
       }
 
   -- a call that found no memory
-  pub call_not_kept : new.calls.items ≡ old.calls.items → new.failing.items ≡ old.failing.items → is_err result ≡ true
+  pub call_not_kept : new.calls ≡ old.calls → new.failing.items ≡ old.failing.items → is_err result ≡ true
       → HasCause old.faults new.faults result → OnOk result (new.faults ≡ old.faults) → IsCall old new result
   call_not_kept same failing err cause quiet =
-      let count : length new.calls.items ≡ length old.calls.items = ap (λ (l : List DiskCall). length l) same in
+      let count : length new.calls ≡ length old.calls = ap (λ (l : List Call). length l) same in
       let time = elapses_untold old new (inl same) in
       record {
         failing = failing;

@@ -6,4 +6,4 @@ use Rattle.disk_core.specs.Replay.{after}
 
 -- its three files after the first n calls, or after all where there are fewer
 abbrev pub state_at : MemoryDisk → ℕ → State
-state_at m n = after (take n m.calls.items)
+state_at m n = after (take n m.calls)

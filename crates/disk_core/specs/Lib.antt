@@ -7,6 +7,7 @@ pub mod Files
 pub mod Forgetful
 pub mod Fronts
 pub mod Images
+pub mod Kept
 pub mod Memory
 pub mod Moments
 pub mod Pending

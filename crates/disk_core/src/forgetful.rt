@@ -73,7 +73,7 @@ impl ForgetfulDisk {
 
     // Loses what a sync that fails loses of its file.
     fn lose(&mut self, file: FileNo)
-        ensures time { Elapses memory_state call_count (λ m t s. HadSince m.calls.items t s) self.old.disk
+        ensures time { Elapses memory_state call_count (λ m t s. HadSince m.calls t s) self.old.disk
             self.new.disk }
         ensures faults { self.new.faults ≡ self.old.faults }
         ensures counts { self.new.counts ≡ self.old.counts }
@@ -91,27 +91,27 @@ impl Disk for ForgetfulDisk {
 
     ghost honest = { false };
 
-    ghost state = { λ d. after d.disk.calls.items };
+    ghost state = { λ d. after d.disk.calls };
 
-    ghost moment = { λ d. length d.disk.calls.items };
+    ghost moment = { λ d. length d.disk.calls };
 
-    ghost had_since = { λ d t s. HadSince d.disk.calls.items t s };
+    ghost had_since = { λ d t s. HadSince d.disk.calls t s };
 
     ghost fault_count = { λ d. d.faults };
 
     ghost tally = { λ d. tally_of d.counts };
 
-    ghost counts_now = { λ d t le. counts_now d.disk.calls.items t le };
+    ghost counts_now = { λ d t le. counts_now d.disk.calls t le };
 
-    ghost only_now = { λ d s had. only_now d.disk.calls.items s had };
+    ghost only_now = { λ d s had. only_now d.disk.calls s had };
 
-    ghost since_earlier = { λ d t u s le had. since_earlier d.disk.calls.items t u s le had };
+    ghost since_earlier = { λ d t u s le had. since_earlier d.disk.calls t u s le had };
 
     ghost reads_image = { λ is d file. absurd (false≢true is) };
 
     ghost honest_tells = { λ is. absurd (false≢true is) };
 
-    ghost holds_bytes = { λ told d file. bytes_told file (bytes_of d.disk.contents) (after d.disk.calls.items)
+    ghost holds_bytes = { λ told d file. bytes_told file (bytes_of d.disk.contents) (after d.disk.calls)
         d.disk.same d.disk.small };
 
     fn length(&mut self, file: FileNo) -> Result<u64, Failed> {

@@ -1,6 +1,7 @@
 //! A disk of three files: what a read gives, and what a crash at any moment may leave.
 #![tactic(auto)]
 
+mod call_list;
 mod contents;
 mod disk;
 mod disk_file;

@@ -7,58 +7,45 @@ ghost use Rattle.disk_core.specs.Contents.{AreBytes, bytes_of, seens};
 ghost use Rattle.disk_core.specs.Pending.{AreImages};
 ghost use Rattle.disk_core.specs.Choices.{GivesEach};
 ghost use Rattle.office_base.specs.Faults.{Rose, HasCause};
-ghost use Rattle.disk_core.specs.declared.memory.DiskCall.TheVariants.{Other, Cut, Sync};
+ghost use Rattle.disk_core.specs.Kept.{Other, Write, Cut, Sync};
 ghost use Rattle.disk_core.specs.Tallies.{IsWritten, IsSynced};
-ghost use Rattle.disk_core.specs.Replay.{IsUntold, KeepsWrite, after, HadSince, counts_now, only_now, since_earlier};
+ghost use Rattle.disk_core.specs.Replay.{IsUntold, after, HadSince, counts_now, only_now, since_earlier};
 ghost use Rattle.disk_core.specs.SeenImages.{own, own_image, bytes_told};
 
+use crate::call_list::{CallList, DiskCall};
 use crate::contents::Contents;
-use crate::pending::Pending;
 use crate::tally::Counts;
 use crate::{Disk, FileNo};
 use office_base::{Failed, NoMemory};
 use std::alloc::{AllocError, Global};
 use std::snapshot::Snapshot;
 
-// A call that a disk in memory has kept; places and lengths are in bytes.
-#[derive(Drop)]
-pub enum DiskCall {
-    // One that changed nothing.
-    Other,
-    Write {
-        file: FileNo,
-        at: u64,
-        bytes: Vec<u8>,
-    },
-    Cut {
-        file: FileNo,
-        to: u64,
-    },
-    Sync {
-        file: FileNo,
-    },
-}
-
 /// Three files in memory, with each call that was made.
 #[derive(Drop)]
 pub struct MemoryDisk {
     alloc: Global,
     contents: Contents,
-    calls: Vec<DiskCall>,
+    calls: CallList,
     failing: Vec<u64>,
     faults: u64,
     counts: Counts,
     block: u64,
     ghost within: { block ≤ 4096 },
-    ghost same: { bytes_of contents ≡ seens (after calls.items) },
+    ghost same: { bytes_of contents ≡ seens (after calls) },
     ghost small: { AreBytes (bytes_of contents) },
 }
 
-fn find_images(calls: &[DiskCall], file: FileNo, alloc: Global) -> Result<Vec<Vec<u8>>, AllocError>
-    ensures images { IfOk result (λ images. AreImages (file_in file (after calls.now)) images.items) }
-    ensures each { IfOk result (λ images. GivesEach (file_in file (after calls.now)) images.items) }
+fn find_images(
+    calls: &CallList,
+    count: usize,
+    file: FileNo,
+    alloc: Global,
+) -> Result<Vec<Vec<u8>>, AllocError>
+    requires { count ≤ length calls.now }
+    ensures images { IfOk result (λ images. AreImages (file_in file (after (take count calls.now))) images.items) }
+    ensures each { IfOk result (λ images. GivesEach (file_in file (after (take count calls.now))) images.items) }
 {
-    let pending = Pending::of(calls, file, alloc)?;
+    let pending = calls.pending(count, file, alloc)?;
     pending.images(alloc)
 }
 
@@ -95,7 +82,7 @@ impl MemoryDisk {
         MemoryDisk {
             alloc,
             contents,
-            calls: Vec::new(alloc),
+            calls: CallList::new(alloc),
             failing,
             faults: 0,
             counts: Counts::new(),
@@ -120,7 +107,7 @@ impl MemoryDisk {
         ensures each { IfOk result (λ images. GivesEach (file_in file (state_at self.now after)) images.items) }
     {
         let count = (after as usize).min(self.calls.len());
-        match find_images(&self.calls[..count], file, self.alloc) {
+        match find_images(&self.calls, count, file, self.alloc) {
             Ok(images) => Ok(images),
             Err(_) => Err(NoMemory),
         }
@@ -135,7 +122,7 @@ impl MemoryDisk {
 
     // Whether the next call is one that is to fail.
     fn next_fails(&self) -> bool
-        ensures { Decides result (Contains self.now.failing.items (length self.now.calls.items + 1)) }
+        ensures { Decides result (Contains self.now.failing.items (length self.now.calls + 1)) }
     {
         self.failing.contains(&(self.calls.len() as u64 + 1))
     }
@@ -143,7 +130,7 @@ impl MemoryDisk {
     // Counts a fault.
     fn fail(&mut self) -> Failed
         ensures counts { self.new.counts ≡ self.old.counts }
-        ensures calls { self.new.calls.items ≡ self.old.calls.items }
+        ensures calls { self.new.calls ≡ self.old.calls }
         ensures failing { self.new.failing.items ≡ self.old.failing.items }
         ensures later { self.old.faults ≤ self.new.faults }
         ensures rose { Rose self.old.faults self.new.faults }
@@ -155,9 +142,9 @@ impl MemoryDisk {
     // Makes a call that changes nothing; it fails where it is to.
     fn pass(&mut self) -> Result<(), Failed>
         ensures counts { self.new.counts ≡ self.old.counts }
-        ensures ok { OnOk result ((self.new.calls.items ≡ self.old.calls.items ++ Other ∷ [])
+        ensures ok { OnOk result ((self.new.calls ≡ self.old.calls ++ Other ∷ [])
             × (self.new.faults ≡ self.old.faults)) }
-        ensures err { OnErr result (IsUntold self.old.calls.items self.new.calls.items) }
+        ensures err { OnErr result (IsUntold self.old.calls self.new.calls) }
         ensures call { IsCall self.old self.new result }
         ensures cause { HasCause self.old.faults self.new.faults result }
     {
@@ -171,65 +158,48 @@ impl MemoryDisk {
 
     // Writes as a whole and keeps the call, or changes nothing.
     fn write(&mut self, file: FileNo, at: u64, bytes: &[u8]) -> Result<(), AllocError>
-        requires { at ≤ length (seen_in file (after self.old.calls.items)) }
+        requires { at ≤ length (seen_in file (after self.old.calls)) }
         ensures counts { self.new.counts ≡ self.old.counts }
-        ensures ok { OnOk result (KeepsWrite file at bytes.now self.old.calls.items self.new.calls.items) }
-        ensures err { OnErr result (self.new.calls.items ≡ self.old.calls.items) }
+        ensures ok { OnOk result (self.new.calls ≡ self.old.calls ++ Write file at bytes.now ∷ []) }
+        ensures err { OnErr result (self.new.calls ≡ self.old.calls) }
         ensures failing { self.new.failing.items ≡ self.old.failing.items }
         ensures faults { self.new.faults ≡ self.old.faults }
     {
-        let copy = bytes.to_vec(self.alloc)?;
-        self.calls.reserve(1)?;
-        self.contents.write(file, at as usize, bytes)?;
-        self.contents.small();
-        self.calls.push_reserved(DiskCall::Write {
-            file,
-            at,
-            bytes: copy,
-        });
-        Ok(())
+        self.calls.write(&mut self.contents, file, at, bytes)
     }
 
     // Keeps a call that changes nothing, or changes nothing itself.
     fn note(&mut self) -> Result<(), AllocError>
         ensures counts { self.new.counts ≡ self.old.counts }
-        ensures ok { OnOk result (self.new.calls.items ≡ self.old.calls.items ++ Other ∷ []) }
-        ensures err { OnErr result (self.new.calls.items ≡ self.old.calls.items) }
+        ensures ok { OnOk result (self.new.calls ≡ self.old.calls ++ Other ∷ []) }
+        ensures err { OnErr result (self.new.calls ≡ self.old.calls) }
         ensures failing { self.new.failing.items ≡ self.old.failing.items }
         ensures faults { self.new.faults ≡ self.old.faults }
     {
-        self.calls.reserve(1)?;
-        self.calls.push_reserved(DiskCall::Other);
-        Ok(())
+        self.calls.keep(DiskCall::Other)
     }
 
     // Keeps a sync, or changes nothing.
     fn settle(&mut self, file: FileNo) -> Result<(), AllocError>
         ensures counts { self.new.counts ≡ self.old.counts }
-        ensures ok { OnOk result (self.new.calls.items ≡ self.old.calls.items ++ Sync file ∷ []) }
-        ensures err { OnErr result (self.new.calls.items ≡ self.old.calls.items) }
+        ensures ok { OnOk result (self.new.calls ≡ self.old.calls ++ Sync file ∷ []) }
+        ensures err { OnErr result (self.new.calls ≡ self.old.calls) }
         ensures failing { self.new.failing.items ≡ self.old.failing.items }
         ensures faults { self.new.faults ≡ self.old.faults }
     {
-        self.calls.reserve(1)?;
-        self.calls.push_reserved(DiskCall::Sync { file });
-        Ok(())
+        self.calls.keep(DiskCall::Sync { file })
     }
 
     // Cuts and keeps the call, or changes nothing.
     fn shorten(&mut self, file: FileNo, to: u64) -> Result<(), AllocError>
-        requires { to ≤ length (seen_in file (after self.old.calls.items)) }
+        requires { to ≤ length (seen_in file (after self.old.calls)) }
         ensures counts { self.new.counts ≡ self.old.counts }
-        ensures ok { OnOk result (self.new.calls.items ≡ self.old.calls.items ++ Cut file to ∷ []) }
-        ensures err { OnErr result (self.new.calls.items ≡ self.old.calls.items) }
+        ensures ok { OnOk result (self.new.calls ≡ self.old.calls ++ Cut file to ∷ []) }
+        ensures err { OnErr result (self.new.calls ≡ self.old.calls) }
         ensures failing { self.new.failing.items ≡ self.old.failing.items }
         ensures faults { self.new.faults ≡ self.old.faults }
     {
-        self.calls.reserve(1)?;
-        self.contents.cut(file, to as usize);
-        self.contents.small();
-        self.calls.push_reserved(DiskCall::Cut { file, to });
-        Ok(())
+        self.calls.cut(&mut self.contents, file, to)
     }
 }
 
@@ -241,27 +211,27 @@ impl Disk for MemoryDisk {
 
     ghost honest = { true };
 
-    ghost state = { λ m. after m.calls.items };
+    ghost state = { λ m. after m.calls };
 
-    ghost moment = { λ m. length m.calls.items };
+    ghost moment = { λ m. length m.calls };
 
-    ghost had_since = { λ m t s. HadSince m.calls.items t s };
+    ghost had_since = { λ m t s. HadSince m.calls t s };
 
     ghost fault_count = { λ m. m.faults };
 
     ghost tally = { memory_tally };
 
-    ghost counts_now = { λ m t le. counts_now m.calls.items t le };
+    ghost counts_now = { λ m t le. counts_now m.calls t le };
 
-    ghost only_now = { λ m s had. only_now m.calls.items s had };
+    ghost only_now = { λ m s had. only_now m.calls s had };
 
-    ghost since_earlier = { λ m t u s le had. since_earlier m.calls.items t u s le had };
+    ghost since_earlier = { λ m t u s le had. since_earlier m.calls t u s le had };
 
-    ghost reads_image = { λ told m file. own_image file (after m.calls.items) (own m.calls.items) };
+    ghost reads_image = { λ told m file. own_image file (after m.calls) (own m.calls) };
 
     ghost honest_tells = { λ told. told };
 
-    ghost holds_bytes = { λ told m file. bytes_told file (bytes_of m.contents) (after m.calls.items) m.same m.small };
+    ghost holds_bytes = { λ told m file. bytes_told file (bytes_of m.contents) (after m.calls) m.same m.small };
 
     fn length(&mut self, file: FileNo) -> Result<u64, Failed>
         ensures call { IsCall self.old self.new result }

@@ -3,13 +3,14 @@ ghost use Rattle.std.specs.Prelude.{◌≡◌, ◌<◌, ◌≤◌, [], length, g
 ghost use Rattle.std.specs.Bool.{Decides};
 ghost use Rattle.std.specs.List.{Contains};
 ghost use Rattle.disk_core.specs.Files.{State, file_in, shortened, synced_file};
+ghost use Rattle.disk_core.specs.Kept.{call_of, calls_of, count_all};
 ghost use Rattle.disk_core.specs.Replay.{after_call, after, written_in};
 ghost use Rattle.disk_core.specs.Pending.{file_of, AreImages, KeepsGiven};
 ghost use Rattle.disk_core.specs.Choices.{IsPending, filled, IsChosen, Gives, GivesEach};
 
 use crate::FileNo;
+use crate::call_list::DiskCall;
 use crate::contents::overwrite;
-use crate::memory::DiskCall;
 use std::alloc::{AllocError, Global};
 
 // What a byte holds that may hold anything.
@@ -105,30 +106,35 @@ impl Pending {
         Ok(())
     }
 
-    // Goes on by one call of the disk.
-    fn go_on(&mut self, file: FileNo, call: &DiskCall) -> Result<(), AllocError>
+    // Goes on by one call of the disk, with its bytes.
+    fn go_on(&mut self, file: FileNo, call: &DiskCall, bytes: &[u8]) -> Result<(), AllocError>
         ensures { (s : State) → file_of self.old ≡ file_in file s
-            → OnOk result (file_of self.new ≡ file_in file (after_call call.now s)) }
+            → OnOk result (file_of self.new ≡ file_in file (after_call (call_of call.now bytes.now) s)) }
     {
         match call {
-            DiskCall::Write {
-                file: of,
-                at,
-                bytes,
-            } if *of == file => self.write(*at as usize, bytes),
+            DiskCall::Write { file: of, at, .. } if *of == file => self.write(*at as usize, bytes),
             DiskCall::Cut { file: of, to } if *of == file => self.cut(*to as usize),
             DiskCall::Sync { file: of } if *of == file => self.settle(),
             _ => Ok(()),
         }
     }
 
-    // Finds what these calls leave of the file.
-    pub fn of(calls: &[DiskCall], file: FileNo, alloc: Global) -> Result<Self, AllocError>
-        ensures { IfOk result (λ pending. file_of pending ≡ file_in file (after calls.now)) }
+    // Finds what these calls leave of the file. The bytes of their writes come one after another.
+    pub fn of(
+        calls: &[DiskCall],
+        bytes: &[u8],
+        file: FileNo,
+        alloc: Global,
+    ) -> Result<Self, AllocError>
+        requires { count_all calls.now ≤ length bytes.now }
+        ensures { IfOk result (λ pending. file_of pending ≡ file_in file (after (calls_of calls.now bytes.now))) }
     {
         let mut pending = Pending::empty(alloc)?;
+        let mut rest = bytes;
         for call in calls {
-            pending.go_on(file, call)?;
+            let (own, others) = rest.split_at(call.count());
+            pending.go_on(file, call, own)?;
+            rest = others;
         }
         Ok(pending)
     }

@@ -10,8 +10,8 @@ pub returns : goal.returns
 returns c =
     let r = c.contains.result in
     let numbers = c.deref.result.now in
-    let count : c.len.result ≡ length c.args.self.now.calls.items = search rules in
+    let count : c.len.result ≡ length c.args.self.now.calls = search rules in
     let among : Decides r (Contains numbers (c.len.result + 1)) =
     Decides-contains numbers (c.len.result + 1) r (contains_decides nat_eq unsigned_Decides numbers (c.len.result + 1) r c.contains.ensures.cases) in
-    subst (λ (xs : List ℕ). Decides r (Contains xs (length c.args.self.now.calls.items + 1))) c.deref.ensures.value
+    subst (λ (xs : List ℕ). Decides r (Contains xs (length c.args.self.now.calls + 1))) c.deref.ensures.value
     (subst (λ (n : ℕ). Decides r (Contains numbers (n + 1))) count among)

@@ -1,5 +1,5 @@
 use Rattle.std.proofs.Common.{sym, ◌∙◌, rules}
-use Rattle.disk_core.specs.declared.memory.DiskCall.TheVariants.{Other}
+use Rattle.disk_core.specs.Kept.{Other}
 use Rattle.disk_core.proofs.Numbered.{counted_call}
 use Rattle.disk_core.proofs.memory.MemoryDisk.pass.Goals as goal
 
