@@ -12,6 +12,7 @@ ghost use Rattle.bucket_account.specs.Standing.{most_commands};
 ghost use Rattle.office_machine.specs.Standing.{StandsForOffice, Does, accepted_after};
 
 use crate::machine::Machine;
+use crate::restoring::put;
 use crate::tariffs::with_tariff;
 use bucket_account::{Account, Counts};
 use moments::{Moment, Month, month_of};
@@ -38,13 +39,7 @@ impl Machine {
         let counts = counts.within(&[What::Buckets])?;
         let shown = copy_of(name)?;
         let kept = copy_of(name)?;
-        if self
-            .accounts
-            .insert(kept, Account::new(self.alloc, t))
-            .is_err()
-        {
-            return Err(Refusal::NoMemory);
-        }
+        put(&mut self.accounts, kept, Account::new(self.alloc, t))?;
         self.counts = counts;
         self.last = Some(t);
         self.first_month = Some(first_of(self.first_month, t));

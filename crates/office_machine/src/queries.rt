@@ -147,9 +147,8 @@ fn stack_of(bucket: &Bucket, key: &Key) -> Result<Reply, Refusal>
     let Some(stack) = bucket.stacks.get(key) else {
         return Err(Refusal::NoSuchKey);
     };
-    let (Ok(key), Ok(stack)) = (key.copy(), stack.copy()) else {
-        return Err(Refusal::NoMemory);
-    };
+    let key = key.copy()?;
+    let stack = stack.copy()?;
     Ok(Reply::StackShown { key, stack })
 }
 

@@ -1,5 +1,5 @@
 // Makes the office of a snapshot.
-ghost use Rattle.std.specs.Prelude.{◌≡◌, ◌+◌, ◌-◌, ◌*◌, ◌≤◌, IfOk, OnOk, IfSome, option_map};
+ghost use Rattle.std.specs.Prelude.{◌≡◌, ◌+◌, ◌-◌, ◌*◌, ◌≤◌, IfOk, OnOk, OnErr, IfSome, option_map};
 ghost use Rattle.std.specs.List.{AllByRecursion};
 ghost use Rattle.office_base.specs.Maps.{with_name};
 ghost use Rattle.plain_office.specs.Counts.{limit_of};
@@ -24,14 +24,16 @@ fn account_of(alloc: Global, part: BucketPart) -> Result<(BucketName, Account), 
     Ok((name, account))
 }
 
+/// Puts an account under its name. After an error the accounts are as they were.
 pub(crate) fn put(
     accounts: &mut BTreeMap<BucketName, Account>,
     name: BucketName,
     account: Account,
 ) -> Result<(), NoMemory>
-    ensures { OnOk result (accounts.new.entries ≡ with_name name account accounts.old.entries) }
+    ensures put { OnOk result (accounts.new.entries ≡ with_name name account accounts.old.entries) }
+    ensures same { OnErr result (accounts.new.entries ≡ accounts.old.entries) }
 {
-    accounts.insert(name, account)?;
+    drop(accounts.insert(name, account)?);
     Ok(())
 }
 

@@ -99,7 +99,7 @@ fn part_of(alloc: Global, name: &BucketName, account: &Account) -> Result<Bucket
     ensures { IfOk result (λ part. IsPartOf part (name.now, account.now)) }
 {
     let name = name.copy()?;
-    let bucket = account.records(alloc)?;
     let sums = account.sums()?;
+    let bucket = account.records(alloc)?;
     Ok(BucketPart { name, bucket, sums })
 }

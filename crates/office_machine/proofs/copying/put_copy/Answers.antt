@@ -6,5 +6,5 @@ pub returns : goal.returns
 returns c = record {
   copy = c.in_ok-account.account;
   is = c.in_ok-account.ensures;
-  written = c.in_ok-put.ensures ∙ ap (λ (n : List ℕ). with_name n c.in_ok-account.account c.args.copies.now.entries) c.in_ok-name.ensures;
+  written = c.in_ok-put.ensures.put ∙ ap (λ (n : List ℕ). with_name n c.in_ok-account.account c.args.copies.now.entries) c.in_ok-name.ensures;
 }

@@ -23,7 +23,7 @@ returns-in_default-clause-reply c =
 
 pub returns-clause-reply : goal.returns-clause-reply
 returns-clause-reply c =
-    inl (told_some c.args.key.now c.in-Ok-Ok.key c.args.bucket.now c.in-Some.stack.now c.in-Ok-Ok.stack
-    c.in-Ok-Ok.ensures c.in-Ok-Ok.ensures' (subst
+    inl (told_some c.args.key.now c.in_ok-key.key c.args.bucket.now c.in-Some.stack.now c.in_ok-stack.stack
+    c.in_ok-key.ensures c.in_ok-stack.ensures (subst
     (λ (bucket : BucketRecord). at_name c.args.key.now bucket.stacks ≡ Some c.in-Some.stack.now)
     c.bucket.view_is (sym c.in-Some.ensures.value)))

@@ -1,5 +1,5 @@
-use Rattle.std.proofs.Common.{◌≡◌, ℕ, ◌+◌, List, [], ◌∷◌, sym, ap, subst, ◌∙◌, true, false}
-use Rattle.std.specs.Prelude.{Result, Ok, Err, Some, None, is_err}
+use Rattle.std.proofs.Common.{◌≡◌, ℕ, ◌+◌, List, [], ◌∷◌, sym, ap, subst, ◌∙◌, true}
+use Rattle.std.specs.Prelude.{Result, Ok, Err, Some, None}
 use Rattle.std.specs.List.{AllByRecursion}
 use Rattle.office_base.specs.Maps.{with_name}
 use Rattle.plain_office.specs.Office.{Office}
@@ -17,7 +17,6 @@ use Rattle.bucket_account.specs.Counting.{amount, in_bucket, first_over}
 use Rattle.office_machine.specs.Standing.{Records, StandsForOffice, IsOfAnOffice, Does}
 use Rattle.bucket_account.proofs.Handed.{err_of}
 use Rattle.office_machine.proofs.Offices.{does_exist, does_fill, does_make, one_more, accepted_records, with_month, kept_on}
-use Rattle.bucket_account.proofs.Started.{ok_of}
 use Rattle.office_machine.proofs.Room.{IsRoomy, room_more, room_with}
 use Rattle.office_machine.proofs.Seen.{seen, seen_later, seen_stands}
 use Rattle.office_machine.proofs.machine.Machine.create_bucket.Goals as goal
@@ -46,19 +45,17 @@ invariant_of-self-2 c =
     let inside = seen c.self.view_is in
     let later : is_not_before inside.last c.args.t ≡ true = seen_later c.args.t c.self.view_is c.requires.later in
     let none = sym c.contains_key.ensures ∙ c.if-contains_key.false in
-    let ok : is_err c.insert.result ≡ false = sym c.is_err.ensures.value ∙ c.if-is_err.false in
-    let entries = ok_of c.insert.result _ ok c.insert.ensures.entries in
-    let named : c.insert.new.self.entries ≡ with_name c.args.name.now c.new.result inside.accounts =
-    entries ∙ ap (λ (name : List ℕ). with_name name c.new.result inside.accounts) c.in_ok-kept.ensures.ok in
+    let named : c.put.new.accounts.entries ≡ with_name c.args.name.now c.new.result inside.accounts =
+    c.in_ok-put.ensures.put ∙ ap (λ (name : List ℕ). with_name name c.new.result inside.accounts) c.in_ok-kept.ensures.ok in
     let counted = c.in_ok-counts.ensures.ok in
     let counts : Counts = c.in_ok-counts.counts in
     let more = subst (λ (k : Counts). (what : What) → amount what k ≡ amount what inside.counts + in_bucket what (new_account c.args.t).bucket) (sym counted.0) (one_more inside.counts c.args.t) in
     let free : first_over (Buckets ∷ []) counts ≡ None = subst (λ (k : Counts). first_over (Buckets ∷ []) k ≡ None) (sym counted.0) counted.1 in
     let p : Office = c.self.invariant.office in
     let made =
-    does_make inside p c.self.invariant.stands c.args.name.now c.args.t later none counts more free c.new.result c.new.ensures.stands c.insert.new.self.entries named (inside.accepted + 1) in
-    with_month c.args.t inside c.insert.new.self.entries counts (inside.accepted + 1) c.first_of.result c.first_of.ensures IsOfAnOffice
-    (kept_on (step c.args.t (command.CreateBucket c.args.name.now) p) p (accepted_records c.args.t inside c.insert.new.self.entries counts (inside.accepted + 1)) (Ok (BucketMade c.args.name.now)) made
+    does_make inside p c.self.invariant.stands c.args.name.now c.args.t later none counts more free c.new.result c.new.ensures.stands c.put.new.accounts.entries named (inside.accepted + 1) in
+    with_month c.args.t inside c.put.new.accounts.entries counts (inside.accepted + 1) c.first_of.result c.first_of.ensures IsOfAnOffice
+    (kept_on (step c.args.t (command.CreateBucket c.args.name.now) p) p (accepted_records c.args.t inside c.put.new.accounts.entries counts (inside.accepted + 1)) (Ok (BucketMade c.args.name.now)) made
     (subst (AllByRecursion (IsRoomy (inside.accepted + 1))) (sym named)
     (room_with (inside.accepted + 1) c.args.name.now c.new.result (c.new.ensures.room (inside.accepted + 1)) inside.accounts (room_more inside.accepted inside.accounts c.self.invariant.room))))
 
@@ -67,10 +64,8 @@ returns-clause-step c = λ p stands.
     let inside = seen c.self.view_is in
     let later : is_not_before inside.last c.args.t ≡ true = seen_later c.args.t c.self.view_is c.requires.later in
     let none = sym c.contains_key.ensures ∙ c.if-contains_key.false in
-    let ok : is_err c.insert.result ≡ false = sym c.is_err.ensures.value ∙ c.if-is_err.false in
-    let entries = ok_of c.insert.result _ ok c.insert.ensures.entries in
-    let named : c.insert.new.self.entries ≡ with_name c.args.name.now c.new.result inside.accounts =
-    entries ∙ ap (λ (name : List ℕ). with_name name c.new.result inside.accounts) c.in_ok-kept.ensures.ok in
+    let named : c.put.new.accounts.entries ≡ with_name c.args.name.now c.new.result inside.accounts =
+    c.in_ok-put.ensures.put ∙ ap (λ (name : List ℕ). with_name name c.new.result inside.accounts) c.in_ok-kept.ensures.ok in
     let counted = c.in_ok-counts.ensures.ok in
     let counts : Counts = c.in_ok-counts.counts in
     let more = subst (λ (k : Counts). (what : What) → amount what k ≡ amount what inside.counts + in_bucket what (new_account c.args.t).bucket) (sym counted.0) (one_more inside.counts c.args.t) in
@@ -81,12 +76,12 @@ returns-clause-step c = λ p stands.
       tariffs = inside.tariffs;
       first_month = Some c.first_of.result;
       closed = inside.closed;
-      accounts = c.insert.new.self.entries;
+      accounts = c.put.new.accounts.entries;
       counts = counts;
       accepted = inside.accepted + 1;
     } in
     let stood : StandsForOffice inside p = seen_stands c.self.view_is stands in
     subst (λ (shown : List ℕ). Does (step c.args.t (command.CreateBucket c.args.name.now) p) p after (Ok (BucketMade shown))) (sym c.in_ok-shown.ensures.ok)
-    (with_month c.args.t inside c.insert.new.self.entries counts (inside.accepted + 1) c.first_of.result c.first_of.ensures
+    (with_month c.args.t inside c.put.new.accounts.entries counts (inside.accepted + 1) c.first_of.result c.first_of.ensures
     (λ (r : Records). Does (step c.args.t (command.CreateBucket c.args.name.now) p) p r (Ok (BucketMade c.args.name.now)))
-    (does_make inside p stood c.args.name.now c.args.t later none counts more free c.new.result c.new.ensures.stands c.insert.new.self.entries named (inside.accepted + 1)))
+    (does_make inside p stood c.args.name.now c.args.t later none counts more free c.new.result c.new.ensures.stands c.put.new.accounts.entries named (inside.accepted + 1)))
