@@ -97,6 +97,7 @@ impl Forecast {
             return Err(ForecastFault::NoMemory);
         };
         let Ok(mut copy) = office.copy() else {
+            drop(act);
             return Err(ForecastFault::NoMemory);
         };
         match set_rules(&mut copy, t, bucket, rules) {
@@ -107,7 +108,11 @@ impl Forecast {
                 first: month_of(t),
                 until: u,
             }),
-            Err(fault) => Err(fault),
+            Err(fault) => {
+                drop(act);
+                drop(copy);
+                Err(fault)
+            }
         }
     }
 
@@ -203,8 +208,14 @@ fn set_rules(
     ensures fault { IfErr result (λ fault. IsOfOffice fault) }
 {
     let bucket = bucket.copy()?;
-    match office.apply(t, None, &Command::SetRules { bucket, rules }) {
-        Ok(_) => Ok(()),
+    let command = Command::SetRules { bucket, rules };
+    let applied = office.apply(t, None, &command);
+    drop(command);
+    match applied {
+        Ok(reply) => {
+            drop(reply);
+            Ok(())
+        }
         Err(refusal) => Err(fault_of(refusal)),
     }
 }
@@ -221,6 +232,7 @@ fn fault_of(refusal: Refusal) -> ForecastFault
     ensures { result ≡ fault_of refusal }
 {
     if is_wanting(&refusal) {
+        drop(refusal);
         ForecastFault::NoMemory
     } else {
         ForecastFault::Refused(refusal)
