@@ -35,6 +35,8 @@ impl<D: Disk + Drop, C: Clock + Drop> Engine<D, C> {
             return Err(SaveFault::NoMemory);
         };
         each_has_six_numbers(&snapshot);
-        save(self.alloc, self.journal.disk_mut(), position, &snapshot)
+        let saved = save(self.alloc, self.journal.disk_mut(), position, &snapshot);
+        drop(snapshot);
+        saved
     }
 }

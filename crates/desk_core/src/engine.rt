@@ -128,6 +128,7 @@ impl<D: Disk + Drop, C: Clock + Drop> Engine<D, C> {
         ensures disk { result.0 ≡ self.disk }
         ensures clock { result.1 ≡ self.clock }
     {
+        drop(self.office);
         (self.journal.give_back(), self.clock)
     }
 
@@ -178,8 +179,12 @@ impl<D: Disk + Drop, C: Clock + Drop> Engine<D, C> {
     {
         match self.journal.append(bytes) {
             Ok(_) => Ok(self.answer(moment.ms(), told, Ok(reply))),
-            Err(AppendFault::JournalFull) => Err(DeskFault::JournalFull),
+            Err(AppendFault::JournalFull) => {
+                drop(reply);
+                Err(DeskFault::JournalFull)
+            }
             Err(AppendFault::StoreFault) => {
+                drop(reply);
                 Err(DeskFault::StoreFault {
                     told: Some(told),
                     faults: self.journal.disk().faults(),

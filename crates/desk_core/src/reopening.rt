@@ -24,6 +24,7 @@ use office_machine::Office;
 use office_types::Entry;
 use slots::SaveFault;
 use std::alloc::Global;
+use std::mem;
 
 // The office from which the journal is read on, and the place where that begins; `None`: its first gate.
 #[derive(Drop)]
@@ -56,7 +57,40 @@ fn beginning<D: Disk>(alloc: Global, disk: &mut D) -> Result<LoadedOffice, OpenF
     }
 }
 
+// Puts an office in the place of another, which it drops.
+fn put_office(place: &mut Office, office: Office)
+    ensures { place.new ≡ office }
+{
+    drop(mem::replace(place, office));
+}
+
 // Makes the change of an entry again. Where the office does not accept it, the journal is damaged at its gate.
+fn make_again(office: &mut Office, entry: &Entry, gate: u64) -> Result<(), OpenFault>
+    requires few { office.old.records.accepted < most_commands }
+    requires carries { MayCarry entry.now.token entry.now.command }
+    ensures ok { OnOk result ((start : plain.Office) (entries : List Entry) → StandsSince start entries office.old
+        → StandsSince start (entries ++ entry.now ∷ []) office.new) }
+    ensures counted { OnOk result (office.new.records.accepted ≡ office.old.records.accepted + 1) }
+    ensures damaged { IfErr result (λ e.
+        IsNotTaken gate office.old entry.now e) }
+{
+    if !is_in_order(office.last(), entry.moment) {
+        return Err(OpenFault::Damaged { offset: gate });
+    }
+    if let Err(fault) = entry_is_new(office, entry, gate) {
+        return Err(fault);
+    }
+    match office.apply(entry.moment, entry.token.as_ref(), &entry.command) {
+        Ok(reply) => {
+            let taken = entry_taken(&reply, gate);
+            drop(reply);
+            taken
+        }
+        Err(refusal) => Err(entry_refused(refusal, gate)),
+    }
+}
+
+// Makes the change of an entry again, and drops the entry.
 fn take(office: &mut Office, entry: Entry, gate: u64) -> Result<(), OpenFault>
     requires few { office.old.records.accepted < most_commands }
     requires carries { MayCarry entry.token entry.command }
@@ -66,16 +100,9 @@ fn take(office: &mut Office, entry: Entry, gate: u64) -> Result<(), OpenFault>
     ensures damaged { IfErr result (λ e.
         IsNotTaken gate office.old entry e) }
 {
-    if !is_in_order(office.last(), entry.moment) {
-        return Err(OpenFault::Damaged { offset: gate });
-    }
-    if let Err(fault) = entry_is_new(office, &entry, gate) {
-        return Err(fault);
-    }
-    match office.apply(entry.moment, entry.token.as_ref(), &entry.command) {
-        Ok(reply) => entry_taken(&reply, gate),
-        Err(refusal) => Err(entry_refused(refusal, gate)),
-    }
+    let taken = make_again(office, &entry, gate);
+    drop(entry);
+    taken
 }
 
 // Reads all entries from the journal's gate on, whose file has this length, and makes their changes again.
@@ -134,9 +161,12 @@ impl<D: Disk + Drop, C: Clock + Drop> Engine<D, C> {
         };
         let end = match self.journal.open(beginning.from) {
             Ok(end) => end,
-            Err(fault) => return Err(fault),
+            Err(fault) => {
+                drop(beginning);
+                return Err(fault);
+            }
         };
-        self.office = beginning.office;
+        put_office(&mut self.office, beginning.office);
         replay(self.alloc, &mut self.journal, end, &mut self.office)
     }
 

@@ -39,7 +39,10 @@ pub fn entry_is_new(office: &Office, entry: &Entry, gate: u64) -> Result<(), Ope
         None => Ok(()),
         Some(token) => match office.recall(token, &entry.command) {
             Ok(None) => Ok(()),
-            Ok(Some(_)) => Err(OpenFault::Damaged { offset: gate }),
+            Ok(Some(reply)) => {
+                drop(reply);
+                Err(OpenFault::Damaged { offset: gate })
+            }
             Err(refusal) => Err(entry_refused(refusal, gate)),
         },
     }
@@ -53,7 +56,10 @@ pub fn entry_refused(refusal: Refusal, gate: u64) -> OpenFault
 {
     match refusal {
         Refusal::NoMemory => OpenFault::NoMemory,
-        _ => OpenFault::Damaged { offset: gate },
+        other => {
+            drop(other);
+            OpenFault::Damaged { offset: gate }
+        }
     }
 }
 

@@ -10,8 +10,8 @@ returns-in-Ok-Some-clause-fails c =
           c.in-Ok-Some.ensures.exact (λ e. let some = c.in-Ok-Some.field-0-is in absurd cc) (λ e. absurd cc),
     )
 
-pub returns-clause-fails : goal.returns-clause-fails
-returns-clause-fails c = ⊎_elim
+pub returns-in-Err-clause-fails : goal.returns-in-Err-clause-fails
+returns-in-Err-clause-fails c = ⊎_elim
     (λ lacks. inl (c.entry_refused.ensures.memory lacks))
     (λ other. inr (
       c.entry_refused.ensures.damaged other,

@@ -12,8 +12,8 @@ use Rattle.desk_core.proofs.Carrying.{takes_kept}
 use Rattle.desk_core.proofs.Closing.{closes_by, takes_snapshot, form_of}
 use Rattle.desk_core.proofs.engine.Engine.keep_checkpoint.Goals as goal
 
-pub save-requires : goal.save-requires
-save-requires g c =
+pub save-saved-requires : goal.save-saved-requires
+save-saved-requires g c =
     let d = g.D.Disk in
     let S : Type 0 = DeskView g.row.D.Denot g.row.C.Denot in
     let inside = c.self.inside in
@@ -36,14 +36,14 @@ returns-clause-closes g c =
     let shows = c.in-Ok.ensures.shows in
     let form = form_of snapshot (takes_snapshot d desk ready snapshot shows) c.in-Ok.ensures.sums c.in-Ok.ensures.told in
     let body = body_format.written snapshot in
-    let new = c.save.new.disk in
-    subst (λ (x : S). Closes d x new c.save.result) c.self.view_is
+    let new = c.save-saved.new.disk in
+    subst (λ (x : S). Closes d x new c.save-saved.result) c.self.view_is
     (closes_by (laws_of g.met.D.Disk) desk one_value new snapshot body form c.each_has_six_numbers.ensures shows is.fresh is.grown
     (λ tells.
     subst (λ (k : ℕ). KeepsTo d desk.disk new (OldOrNew (kept k body) (d.state desk.disk))) c.end-position.ensures
     (subst (λ (x : g.row.D.Denot). KeepsTo d x new (OldOrNew (kept c.end-position.result body) (d.state x))) c.disk_mut.ensures.value
-    (c.save.ensures.any_moment tells)))
-    c.save.result c.save.ensures.spelled
-    (λ tells out. subst (λ (x : g.row.D.Denot). Untouched d x new) c.disk_mut.ensures.value (c.save.ensures.unchanged tells out))
-    (λ tells. subst (λ (k : ℕ). OnOk c.save.result (IsSaved (kept k body) (d.state new))) c.end-position.ensures (c.save.ensures.saved tells))
-    (subst (λ (x : g.row.D.Denot). OnOk c.save.result (LeavesSynced 4 (d.tally x) (d.tally new))) c.disk_mut.ensures.value c.save.ensures.durable))
+    (c.save-saved.ensures.any_moment tells)))
+    c.save-saved.result c.save-saved.ensures.spelled
+    (λ tells out. subst (λ (x : g.row.D.Denot). Untouched d x new) c.disk_mut.ensures.value (c.save-saved.ensures.unchanged tells out))
+    (λ tells. subst (λ (k : ℕ). OnOk c.save-saved.result (IsSaved (kept k body) (d.state new))) c.end-position.ensures (c.save-saved.ensures.saved tells))
+    (subst (λ (x : g.row.D.Denot). OnOk c.save-saved.result (LeavesSynced 4 (d.tally x) (d.tally new))) c.disk_mut.ensures.value c.save-saved.ensures.durable))

@@ -6,6 +6,7 @@ use Rattle.disk_core.specs.Fronts.{Narrower}
 use Rattle.disk_core.specs.Moments.{KeepsTo, OnlyReads, Untouched}
 use Rattle.disk_core.specs.declared.disk.FileNo.TheVariants.{Journal}
 use Rattle.meter_journal.specs.Reading.{HeadGives}
+use Rattle.office_machine.specs.Once.{OfficeView}
 use Rattle.desk_core.specs.Damage.{HasReplayed, ReplayFails, OpenFailsOn}
 use Rattle.desk_core.specs.Rereading.{BeginsOn}
 use Rattle.desk_core.specs.Submitting.{Reopens}
@@ -21,11 +22,11 @@ returns-clause-opens g c =
     let lent = c.disk_mut.ensures.value in
     let mid = c.beginning.new.disk in
     let begun = c.open.new.self in
-    let first = c.in-Ok.beginning.office in
+    let first = c.put_office.new.place in
     let from = c.in-Ok.beginning.from in
     let journal = c.replay.new.journal in
     let office : P = record { disk = journal.disk; clock = inside.clock; office = c.replay.new.office; gate = journal.gate; opened_at = inside.opened_at; limit = journal.limit; stale = inside.stale } in
-    let begins = subst (λ (x : g.row.D.Denot). BeginsOn d x first from) lent c.in-Ok.ensures.begins in
+    let begins = subst (λ (o : OfficeView). BeginsOn d inside.journal.disk o from) (sym c.put_office.ensures) (subst (λ (x : g.row.D.Denot). BeginsOn d x c.in-Ok.beginning.office from) lent c.in-Ok.ensures.begins) in
     on_quiet c.replay.result (λ none read. subst (λ (s : P). Reopens d s office) c.self.view_is (record {
       reads = reads_on g.met.D.Disk.honest_tells inside.journal.disk mid begun.disk office
           (subst (λ (x : g.row.D.Denot). OnlyReads d x mid) lent c.beginning.ensures.untouched) c.replay.ensures.untouched c.in-Ok-open.ensures.writes
@@ -58,11 +59,12 @@ returns-clause-fails g c tells =
     let old = c.self.inside.journal.disk in
     let lent = c.disk_mut.ensures.value in
     let mid = c.beginning.new.disk in
-    let first = c.in-Ok.beginning.office in
+    let first = c.put_office.new.place in
     let from = c.in-Ok.beginning.from in
     let ok = c.in-Ok-open.ensures.ok tells in
     on_fault c.replay.result (λ e fails. subst (λ (s : P). OpenFailsOn e (d.state s.disk)) c.self.view_is
-    (replay_fails old first from (subst (λ (x : g.row.D.Denot). BeginsOn d x first from) lent c.in-Ok.ensures.begins) tells e (d.state mid).journal.seen
+    (replay_fails old first from
+    (subst (λ (o : OfficeView). BeginsOn d old o from) (sym c.put_office.ensures) (subst (λ (x : g.row.D.Denot). BeginsOn d x c.in-Ok.beginning.office from) lent c.in-Ok.ensures.begins)) tells e (d.state mid).journal.seen
     (ap (λ (s : State). s.journal.seen) ((c.beginning.ensures.untouched.files tells).now ∙ ap d.state lent)) ok.0 fails))
     (subst (λ (k : ℕ). IfErr c.replay.result (λ e. ReplayFails e first k (d.state mid).journal.seen)) c.in-Ok-open.ensures.start
     (c.replay.ensures.fails tells (d.state mid).journal.seen (c.in-Ok-open.ensures.reads tells (λ is. absurd cc) Journal) ok.0))
@@ -93,3 +95,6 @@ returns-clause-any_moment g c tells =
     subst (λ (s : P). KeepsTo d s.disk c.replay.new.journal.disk (Narrower (d.state s.disk))) c.self.view_is
     (then_untouched (narrowed_on c.self.inside.journal.disk mid c.open.new.self.disk still (c.open.ensures.any_moment tells))
     (c.replay.ensures.untouched.files (g.met.D.Disk.honest_tells tells)))
+
+pub replay-requires-clause-fresh : goal.replay-requires-clause-fresh
+replay-requires-clause-fresh g c = subst (λ (o : OfficeView). o.records.accepted ≡ 0) (sym c.put_office.ensures) c.in-Ok.ensures.begins.fresh
