@@ -22,7 +22,13 @@ pub fn generate(alloc: Global, number: u64, count: u32) -> Result<Tally, NoMemor
 {
     let mut work = Work::begin(alloc, number)?;
     'making: for _made in 0..count {
-        work.make(alloc)?;
+        match work.make(alloc) {
+            Ok(()) => {}
+            Err(error) => {
+                drop(work);
+                return Err(error);
+            }
+        }
     }
     work.end(alloc)
 }

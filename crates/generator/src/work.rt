@@ -4,6 +4,7 @@ ghost use Rattle.std.specs.Prelude.{min, ℕ, List, false, IsTrue, OnOk, IfOk, I
 ghost use Rattle.std.specs.Io.KnownBytes.{Appends};
 ghost use Rattle.office_types.specs.declared.command.Ask.TheVariants as ask_of;
 ghost use Rattle.office_types.specs.declared.command.Entry.{Entry};
+ghost use Rattle.office_types.specs.declared.command.Query.TheVariants as query;
 ghost use Rattle.plain_office.specs.Run.{run};
 ghost use Rattle.desk_core.specs.Calls.{IsAnswered};
 ghost use Rattle.desk_core.specs.Histories.{SlotsFit};
@@ -18,7 +19,7 @@ use crate::tally::Tally;
 use desk_core::{Acked, Clock, Desk};
 use disk_core::{Disk, MemoryDisk};
 use meter_journal::{Made, create};
-use office_base::NoMemory;
+use office_base::{BucketName, NoMemory};
 use office_types::{Ask, Command, Query, Refusal, Reply};
 use std::alloc::Global;
 
@@ -112,7 +113,28 @@ fn ask_command(desk: &mut Desk<MemoryDisk, PlaceClock>, command: Command) -> Res
         × (said.told ≡ (place_after number (told + 1)).moment)
         × IsDeskAfter number (told + 1) after desk.new) }
 {
-    ask_next(desk, &Ask::Command(command))
+    let question = Ask::Command(command);
+    let said = ask_next(desk, &question);
+    drop(question);
+    said
+}
+
+// Asks what a bucket holds.
+fn ask_bucket(
+    desk: &mut Desk<MemoryDisk, PlaceClock>,
+    bucket: BucketName,
+) -> Result<Acked, NoMemory>
+    ensures { (number told : ℕ) (history : List Entry) → told < 2 ^ 33 → IsDeskAfter number told history desk.old
+        → IfOk result (λ said. (after : List Entry)
+        × IsSomeAnd (run history)
+        (λ office. IsAnswered desk.old.limit (ask_of.Query (query.Bucket bucket)) office said history after)
+        × (said.told ≡ (place_after number (told + 1)).moment)
+        × IsDeskAfter number (told + 1) after desk.new) }
+{
+    let question = Ask::Query(Query::Bucket(bucket));
+    let said = ask_next(desk, &question);
+    drop(question);
+    said
 }
 
 // Makes the journal, and opens the desk over it.
@@ -184,11 +206,21 @@ fn kept_in(alloc: Global, desk: &mut Desk<MemoryDisk, PlaceClock>) -> Result<Kep
 {
     let mut kept = Kept::none();
     for bucket in 0..4 {
-        let question = Ask::Query(Query::Bucket(bucket_name(alloc, bucket)?));
-        let said = ask_next(desk, &question)?;
+        let said = ask_bucket(desk, bucket_name(alloc, bucket)?)?;
         kept.add(&said);
+        drop(said);
     }
     Ok(kept)
+}
+
+// Asks what the four buckets hold, and drops the desk.
+fn kept_at_end(alloc: Global, mut desk: Desk<MemoryDisk, PlaceClock>) -> Result<Kept, NoMemory>
+    ensures { (number made : ℕ) → made < 2 ^ 32 → IsDeskAfter number made (progress number made).accepted desk
+        → IfOk result (λ kept. AreKept 4 (progress number made) kept) }
+{
+    let kept = kept_in(alloc, &mut desk);
+    drop(desk);
+    kept
 }
 
 impl Work {
@@ -216,6 +248,7 @@ impl Work {
         let command = self.place.next().command(alloc)?;
         let said = ask_command(&mut self.desk, command)?;
         self.answers.note(said.reply());
+        drop(said);
         Ok(())
     }
 
@@ -225,8 +258,7 @@ impl Work {
         requires made { self.place.made < 2 ^ 32 }
         ensures { IfOk result (λ counts. counts ≡ tally self.number self.place.made) }
     {
-        let mut desk = self.desk;
-        let kept = kept_in(alloc, &mut desk)?;
+        let kept = kept_at_end(alloc, self.desk)?;
         Ok(Tally {
             made: self.place.made,
             accepted: self.answers.accepted,
