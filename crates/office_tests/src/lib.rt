@@ -4,6 +4,8 @@
 #[cfg(test)]
 mod disk_core_tests;
 #[cfg(test)]
+mod given;
+#[cfg(test)]
 mod meter_journal_tests;
 #[cfg(test)]
 mod office_machine_tests;

@@ -3,16 +3,15 @@ ghost use Rattle.entry_codec.specs.Spelling.{IsEntry};
 ghost use Rattle.office_types.specs.declared.command.Entry.{Entry};
 ghost use Rattle.meter_journal.specs.History.{IsAtRest};
 
+use crate::given::{bucket, equal, equal_bytes, moment};
 use disk_core::{Disk, FileNo, MemoryDisk};
 use entry_codec::encode;
 use meter_journal::{
     AppendFault, Journal, Made, OpenFault, Window, create, frame_in, measure, read_all,
 };
-use moments::Moment;
-use office_base::BucketName;
 use office_types::{Command, Entry, Token};
 use std::alloc::Global;
-use std::test::Fail;
+use std::process::Abort;
 
 const EMPTY: &[u8] = &[
     0xA5, 0x4D, 0x45, 0x54, 0x45, 0x52, 0x4A, 0x52, 0x4E, 0x31, 0,
@@ -79,8 +78,8 @@ const FOREIGN: &[u8] = &[
     0x37, 0x4D, 0x45, 0x54, 0x45, 0x52, 0x4A, 0x52, 0x4E, 0x31, 0, 0,
 ];
 
-// Opens a journal of at most one entry again, and reads it up to its end gate.
-fn read_again<D: Disk>(alloc: Global, journal: &mut Journal<D>) -> Result<Option<Entry>, OpenFault>
+// Opens a journal of at most one entry again, reads it up to its end gate, and returns whether it has the entry.
+fn read_again<D: Disk>(alloc: Global, journal: &mut Journal<D>) -> Result<bool, OpenFault>
     ensures { IsTrue D.honest → OnOk result ((head : List ℕ) × (entries : List Entry)
         × IsAtRest head (D.state journal.new.disk) journal.new.gate entries) }
 {
@@ -94,15 +93,19 @@ fn read_again<D: Disk>(alloc: Global, journal: &mut Journal<D>) -> Result<Option
         Err(fault) => return Err(fault),
     };
     let Some(entry) = first else {
-        return Ok(None);
+        return Ok(false);
     };
+    drop(entry);
     let second = match journal.next_in(alloc, end, &mut window) {
         Ok(second) => second,
         Err(fault) => return Err(fault),
     };
     match second {
-        None => Ok(Some(entry)),
-        Some(_) => Err(OpenFault::Damaged { offset: 30 }),
+        None => Ok(true),
+        Some(entry) => {
+            drop(entry);
+            Err(OpenFault::Damaged { offset: 30 })
+        }
     }
 }
 
@@ -118,55 +121,53 @@ fn empty_journal<D: Disk + Drop>(
 {
     let mut journal = Journal::over(disk, limit);
     match read_again(alloc, &mut journal) {
-        Ok(None) => Ok(journal),
-        Ok(Some(_)) => Err(OpenFault::Damaged { offset: 10 }),
+        Ok(false) => Ok(journal),
+        Ok(true) => Err(OpenFault::Damaged { offset: 10 }),
         Err(fault) => Err(fault),
     }
 }
 
 // The bytes of the entry that makes the bucket logs at 2024-01-01 00:00 UTC.
-fn entry_bytes(alloc: Global) -> Result<Vec<u8>, Fail>
-    ensures { IfOk result (λ bytes. IsEntry bytes.items) }
+fn entry_bytes(rt: &impl Abort, alloc: Global) -> Vec<u8>
+    ensures { IsEntry result.items }
 {
-    let bucket = BucketName::read(alloc, "logs")?;
+    let bucket = bucket(rt, alloc, "logs");
     let entry = Entry {
-        moment: Moment::of(1_704_067_200_000)?,
+        moment: moment(rt, 1_704_067_200_000),
         token: None,
         command: Command::CreateBucket { bucket },
     };
-    Ok(encode(alloc, &entry)?)
+    let bytes = encode(alloc, &entry);
+    drop(entry);
+    bytes.expect(rt, "an entry")
 }
 
-// Whether the journal, opened again, has an entry.
-fn has_entry<D: Disk>(alloc: Global, journal: &mut Journal<D>) -> Result<bool, OpenFault>
-    ensures { IsTrue D.honest → OnOk result ((head : List ℕ) × (entries : List Entry)
-        × IsAtRest head (D.state journal.new.disk) journal.new.gate entries) }
-{
-    match read_again(alloc, journal) {
-        Ok(read) => Ok(read.is_some()),
-        Err(fault) => Err(fault),
-    }
-}
-
-fn file_of(alloc: Global, bytes: &[u8]) -> Result<MemoryDisk, Fail> {
+fn file_of(rt: &impl Abort, alloc: Global, bytes: &[u8]) -> MemoryDisk {
     let mut disk = MemoryDisk::new(alloc, Vec::new(alloc));
-    disk.write_at(FileNo::Journal, 0, bytes)?;
-    Ok(disk)
+    disk.write_at(FileNo::Journal, 0, bytes)
+        .expect(rt, "the bytes are written");
+    disk
+}
+
+fn bytes_of(rt: &impl Abort, alloc: Global, disk: &mut MemoryDisk) -> Vec<u8> {
+    read_all(alloc, disk).expect(rt, "the file")
 }
 
 // Adds the entry to an empty journal with a limit, on a disk with a block, and returns the answer and the file.
-fn added(alloc: Global, block: u64, limit: u64) -> Result<(Result<u64, AppendFault>, Vec<u8>), Fail>
+fn added(
+    rt: &impl Abort,
+    alloc: Global,
+    block: u64,
+    limit: u64,
+) -> (Result<u64, AppendFault>, Vec<u8>)
     requires block { block ≤ 4096 }
     requires limit { limit ≤ 2 ^ 45 }
 {
-    let bytes = entry_bytes(alloc)?;
     let mut disk = MemoryDisk::with_block(alloc, Vec::new(alloc), block);
-    create(&mut disk)?;
-    let mut journal = empty_journal(alloc, disk, limit)?;
-    let answer = journal.append(&bytes);
-    let mut disk = journal.give_back();
-    let kept = read_all(alloc, &mut disk)?;
-    Ok((answer, kept))
+    create(&mut disk).expect(rt, "a journal");
+    let mut journal = empty_journal(alloc, disk, limit).expect(rt, "no entry");
+    let answer = journal.append(&entry_bytes(rt, alloc));
+    (answer, bytes_of(rt, alloc, &mut journal.give_back()))
 }
 
 // The block and the limit, the answer, and the file afterwards.
@@ -179,40 +180,59 @@ const ADDED: &[(u64, u64, Result<u64, AppendFault>, &[u8])] = &[
     (20, 39, Ok(30), ONE),
 ];
 
+// What opening a file with a limit finds: whether it has an entry, and the journal's end.
+fn found_in(
+    rt: &impl Abort,
+    alloc: Global,
+    file: &[u8],
+    limit: u64,
+) -> (Result<bool, OpenFault>, u64)
+    requires { limit ≤ 2 ^ 45 }
+{
+    let mut journal = Journal::over(file_of(rt, alloc, file), limit);
+    let has_entry = read_again(alloc, &mut journal);
+    (has_entry, journal.end())
+}
+
 #[test]
-fn an_entry_is_added_within_the_limit_and_the_file_grows_by_blocks(
-    rt: HostRuntime,
-) -> Result<(), Fail> {
+fn an_entry_is_added_within_the_limit_and_the_file_grows_by_blocks(rt: HostRuntime) {
     let alloc = rt.alloc();
     for (block, limit, answer, file) in ADDED {
-        let (found, kept) = added(alloc, (*block).min(4_096), (*limit).min(1 << 45))?;
-        assert_eq!(rt; found, *answer, "block {block}, limit {limit}");
-        assert!(rt; kept.as_slice() == *file, "block {block}, limit {limit}");
+        let row = (*block, *limit);
+        let (found, kept) = added(&rt, alloc, (*block).min(4_096), (*limit).min(1 << 45));
+        equal(&rt, &row, &found, answer);
+        equal_bytes(&rt, &row, &kept, *file);
     }
-    let mut journal = Journal::over(file_of(alloc, GROWN)?, 40);
-    assert_eq!(rt; has_entry(alloc, &mut journal), Ok(true));
-    assert_eq!(rt; journal.end(), 30);
-    Ok(())
+    equal(
+        &rt,
+        &"grown",
+        &found_in(&rt, alloc, GROWN, 40),
+        &(Ok(true), 30),
+    );
 }
 
 // Adds the entry on a disk that fails at a call, opens the journal again, and adds the entry once more. Returns whether
 // the first one was there, the answer to the second, and the file.
 fn added_again(
+    rt: &impl Abort,
     alloc: Global,
     failing: u64,
-) -> Result<(bool, Result<u64, AppendFault>, Vec<u8>), Fail> {
-    let bytes = entry_bytes(alloc)?;
-    let mut disk = MemoryDisk::new(alloc, vec![in alloc; failing]?);
-    create(&mut disk)?;
-    let mut journal = empty_journal(alloc, disk, 51)?;
-    if journal.append(&bytes).is_ok() {
-        return Err(Fail::from(OpenFault::StoreFault));
-    }
-    let found = has_entry(alloc, &mut journal)?;
+) -> (bool, Result<u64, AppendFault>, Vec<u8>) {
+    let bytes = entry_bytes(rt, alloc);
+    let failing = vec![in alloc; failing].expect(rt, "memory");
+    let mut disk = MemoryDisk::new(alloc, failing);
+    create(&mut disk).expect(rt, "a journal");
+    let mut journal = empty_journal(alloc, disk, 51).expect(rt, "no entry");
+    let first = journal.append(&bytes);
+    equal(
+        rt,
+        &"the first entry",
+        &first,
+        &Err(AppendFault::StoreFault),
+    );
+    let found = read_again(alloc, &mut journal).expect(rt, "the journal is opened again");
     let answer = journal.append(&bytes);
-    let mut disk = journal.give_back();
-    let kept = read_all(alloc, &mut disk)?;
-    Ok((found, answer, kept))
+    (found, answer, bytes_of(rt, alloc, &mut journal.give_back()))
 }
 
 // The call that fails, whether the entry is there afterwards, the answer to the second, and the file. Of the disk's
@@ -223,13 +243,12 @@ const FAILED: &[(u64, bool, Result<u64, AppendFault>, &[u8])] = &[
 ];
 
 #[test]
-fn a_journal_is_opened_again_after_a_fault(rt: HostRuntime) -> Result<(), Fail> {
+fn a_journal_is_opened_again_after_a_fault(rt: HostRuntime) {
     for (failing, is_there, answer, file) in FAILED {
-        let (found, second, kept) = added_again(rt.alloc(), *failing)?;
-        assert_eq!(rt; (found, second), (*is_there, *answer), "call {failing}");
-        assert!(rt; kept.as_slice() == *file, "call {failing}");
+        let (found, second, kept) = added_again(&rt, rt.alloc(), *failing);
+        equal(&rt, failing, &(found, second), &(*is_there, *answer));
+        equal_bytes(&rt, failing, &kept, *file);
     }
-    Ok(())
 }
 
 fn is_logs(command: &Command) -> bool {
@@ -267,18 +286,23 @@ fn told_by(entry: &Entry) -> Told {
     Told::Other
 }
 
-// What the frame at a gate holds: its moment, what its entry does, and the next gate; none if the gate is closed.
-fn told_at<D: Disk>(
-    alloc: Global,
-    disk: &mut D,
-    gate: u64,
-) -> Result<Option<(u64, Told, u64)>, OpenFault> {
-    let mut window = Window::new(alloc)?;
-    let Ok(end) = disk.length(FileNo::Journal) else {
-        return Err(OpenFault::StoreFault);
-    };
-    match frame_in(alloc, disk, gate, end, &mut window) {
-        Ok(Some((entry, next))) => Ok(Some((entry.moment.ms(), told_by(&entry), next))),
+// The moment of a frame, what its entry does, and the next gate; none if the gate is closed.
+type Frame = Result<Option<(u64, Told, u64)>, OpenFault>;
+
+// The same of an entry and the gate after it.
+fn frame_of(entry: Entry, next: u64) -> (u64, Told, u64) {
+    let frame = (entry.moment.ms(), told_by(&entry), next);
+    drop(entry);
+    frame
+}
+
+// What a file holds at a gate.
+fn told_at(rt: &impl Abort, alloc: Global, file: &[u8], gate: u64) -> Frame {
+    let mut disk = file_of(rt, alloc, file);
+    let mut window = Window::new(alloc).expect(rt, "memory");
+    let end = disk.length(FileNo::Journal).expect(rt, "a length");
+    match frame_in(alloc, &mut disk, gate, end, &mut window) {
+        Ok(Some((entry, next))) => Ok(Some(frame_of(entry, next))),
         Ok(None) => Ok(None),
         Err(fault) => Err(fault),
     }
@@ -295,7 +319,7 @@ const HEADS: &[(&[u8], Result<u64, OpenFault>)] = &[
 const DAMAGED: OpenFault = OpenFault::Damaged { offset: 10 };
 
 // A file, a gate, and the frame there.
-const FRAMES: &[(&[u8], u64, Result<Option<(u64, Told, u64)>, OpenFault>)] = &[
+const FRAMES: &[(&[u8], u64, Frame)] = &[
     (ONE, 10, Ok(Some((1_704_067_200_000, Told::Logs, 30)))),
     (ONE, 30, Ok(None)),
     (ONCE, 10, Ok(Some((1_704_067_200_000, Told::LogsOnce, 33)))),
@@ -308,30 +332,28 @@ const FRAMES: &[(&[u8], u64, Result<Option<(u64, Told, u64)>, OpenFault>)] = &[
     (HUGE, 10, Err(DAMAGED)),
 ];
 
+fn measured(rt: &impl Abort, alloc: Global, file: &[u8]) -> Result<u64, OpenFault> {
+    measure(&mut file_of(rt, alloc, file))
+}
+
+// The fault of a file as a journal without entries.
+fn fault_of(rt: &impl Abort, alloc: Global, file: &[u8]) -> Option<OpenFault> {
+    empty_journal(alloc, file_of(rt, alloc, file), 51).err()
+}
+
 #[test]
-fn a_file_is_what_its_bytes_say(rt: HostRuntime) -> Result<(), Fail> {
+fn a_file_is_what_its_bytes_say(rt: HostRuntime) {
     let alloc = rt.alloc();
     for (file, head) in HEADS {
-        let mut disk = file_of(alloc, *file)?;
-        assert_eq!(rt; measure(&mut disk), *head, "{file:?}");
+        equal(&rt, file, &measured(&rt, alloc, *file), head);
     }
     for (file, gate, frame) in FRAMES {
-        let mut disk = file_of(alloc, *file)?;
-        assert_eq!(rt;
-            told_at(alloc, &mut disk, *gate),
-            *frame,
-            "{file:?} at {gate}"
-        );
+        let found = told_at(&rt, alloc, *file, *gate);
+        equal(&rt, &(*file, *gate), &found, frame);
     }
     for file in &[LONG, HUGE] {
-        let disk = file_of(alloc, *file)?;
-        assert_eq!(rt;
-            empty_journal(alloc, disk, 51).err(),
-            Some(DAMAGED),
-            "{file:?}"
-        );
+        equal(&rt, file, &fault_of(&rt, alloc, *file), &Some(DAMAGED));
     }
-    Ok(())
 }
 
 // A file, what making it answers, and the file afterwards.
@@ -341,19 +363,29 @@ const MADE: &[(&[u8], Result<Made, OpenFault>, &[u8])] = &[
     (FOREIGN, Err(OpenFault::Foreign), FOREIGN),
 ];
 
+// What making a file answers, and the file afterwards.
+fn made(rt: &impl Abort, alloc: Global, file: &[u8]) -> (Result<Made, OpenFault>, Vec<u8>) {
+    let mut disk = file_of(rt, alloc, file);
+    let answer = create(&mut disk);
+    (answer, bytes_of(rt, alloc, &mut disk))
+}
+
+// What making a file answers on a disk that fails at a call, and the disk's faults.
+fn not_made(rt: &impl Abort, alloc: Global, failing: u64) -> (Result<Made, OpenFault>, u64) {
+    let failing = vec![in alloc; failing].expect(rt, "memory");
+    let mut disk = MemoryDisk::new(alloc, failing);
+    let answer = create(&mut disk);
+    (answer, disk.faults())
+}
+
 #[test]
-fn a_file_is_made_once(rt: HostRuntime) -> Result<(), Fail> {
+fn a_file_is_made_once(rt: HostRuntime) {
     let alloc = rt.alloc();
     for (file, answer, after) in MADE {
-        let mut disk = file_of(alloc, *file)?;
-        assert_eq!(rt; create(&mut disk), *answer, "{file:?}");
-        assert!(rt;
-            read_all(alloc, &mut disk)?.as_slice() == *after,
-            "{file:?}"
-        );
+        let (found, kept) = made(&rt, alloc, *file);
+        equal(&rt, file, &found, answer);
+        equal_bytes(&rt, file, &kept, *after);
     }
-    let mut disk = MemoryDisk::new(alloc, vec![in alloc; 1]?);
-    assert_eq!(rt; create(&mut disk), Err(OpenFault::StoreFault));
-    assert_eq!(rt; disk.faults(), 1);
-    Ok(())
+    let failed = (Err(OpenFault::StoreFault), 1);
+    equal(&rt, &"call 1", &not_made(&rt, alloc, 1), &failed);
 }

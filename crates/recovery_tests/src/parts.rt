@@ -1,6 +1,13 @@
 // The parts of files, as docs/FORMATS.md and the README of checkpoint describe them.
 use std::alloc::Global;
+use std::fmt::Debug;
+use std::process::Abort;
 use std::test::Fail;
+
+// Compares what a row gives with what it expects, and names the row.
+pub fn equal<T: PartialEq + Debug>(rt: &impl Abort, row: &impl Debug, found: &T, wanted: &T) {
+    assert_eq!(rt; *found, *wanted, "{row:?}");
+}
 
 // A gate of the journal.
 pub const OPEN: &[u8] = &[0xA5];

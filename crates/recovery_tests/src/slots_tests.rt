@@ -1,11 +1,11 @@
 // The two slots, over bodies that begin with 1.
 ghost use Rattle.std.specs.Prelude.{◌≡◌, get_or};
 
+use crate::parts::equal;
 use disk_core::{Disk, FileNo, MemoryDisk};
 use office_base::NoMemory;
 use slots::{Body, load, save};
 use std::alloc::Global;
-use std::test::Fail;
 
 // The second slot after a save of the bytes 1, 4 at position 20.
 const SECOND: [u8; 19] = [0xA7, 0, 0, 0, 0, 0, 0, 0, 20, 0, 0, 0, 0, 0, 0, 0, 2, 1, 4];
@@ -58,22 +58,25 @@ fn second_has(disk: &mut MemoryDisk, wanted: &[u8; 19]) -> bool {
     bytes == *wanted
 }
 
+// A save's position and body, and the position and the length of the body that are loaded after it. A body that spells
+// nothing is passed over, and the next save replaces it.
+const SAVES: &[(u64, &[u8], (u64, usize))] = &[
+    (10, &[1, 2, 3], (10, 3)),
+    (20, &[1, 4], (20, 2)),
+    (30, &[9, 4], (20, 2)),
+    (25, &[1], (25, 1)),
+];
+
 #[test]
-fn saves_and_loads(rt: HostRuntime) -> Result<(), Fail> {
+fn saves_and_loads(rt: HostRuntime) {
     let alloc = rt.alloc();
     let mut disk = MemoryDisk::new(alloc, Vec::new(alloc));
-    assert_eq!(rt; loaded(alloc, &mut disk), (0, 0));
-    assert!(rt; saves(alloc, &mut disk, 10, &[1, 2, 3]));
-    assert_eq!(rt; loaded(alloc, &mut disk), (10, 3));
-    assert!(rt; saves(alloc, &mut disk, 20, &[1, 4]));
-    assert_eq!(rt; loaded(alloc, &mut disk), (20, 2));
-
-    assert!(rt; second_has(&mut disk, &SECOND));
-
-    // A body that spells nothing is passed over, and the next save replaces it.
-    assert!(rt; saves(alloc, &mut disk, 30, &[9, 4]));
-    assert_eq!(rt; loaded(alloc, &mut disk), (20, 2));
-    assert!(rt; saves(alloc, &mut disk, 25, &[1]));
-    assert_eq!(rt; loaded(alloc, &mut disk), (25, 1));
-    Ok(())
+    equal(&rt, &"no save", &loaded(alloc, &mut disk), &(0, 0));
+    for (position, body, wanted) in SAVES {
+        assert!(rt; saves(alloc, &mut disk, *position, *body));
+        equal(&rt, position, &loaded(alloc, &mut disk), wanted);
+        if *position == 20 {
+            assert!(rt; second_has(&mut disk, &SECOND));
+        }
+    }
 }

@@ -2,6 +2,8 @@
 #![tactic(auto)]
 
 #[cfg(test)]
+mod given;
+#[cfg(test)]
 mod http_front_tests;
 #[cfg(test)]
 mod interrupted_tests;

@@ -5,10 +5,10 @@ ghost use Rattle.turn_core.specs.Calls.{calls_under};
 ghost use Rattle.turn_core.specs.Passes.{IsPassOf, view};
 ghost use Rattle.turn_core.specs.Views.{newcomer};
 
-use std::alloc::{AllocError, Global};
+use crate::given::equal;
 use std::hint::spin_loop;
+use std::process::Abort;
 use std::sync::Wait;
-use std::test::Fail;
 use std::thread::{Threads, join};
 use turn_core::{Pass, Turned, Turns};
 
@@ -137,32 +137,41 @@ fn in_two_threads<R: Threads + Wait + Sync>(
 }
 
 #[test]
-fn four_calls_are_counted(rt: HostRuntime) -> Result<(), Fail> {
+fn four_calls_are_counted(rt: HostRuntime) {
     let Ok((turns, mut pass)) = Turns::new(rt.alloc(), Counter { count: 0 }) else {
         panic!(rt; "no memory")
     };
-    assert_eq!(rt; three_and_one(&rt, &turns, &mut pass), [1, 2, 3, 4]);
-    assert_eq!(rt; pass.calls(), 3);
-    assert_eq!(rt; turns.close(pass).count, 4);
-    Ok(())
+    assert!(rt; three_and_one(&rt, &turns, &mut pass) == [1, 2, 3, 4]);
+    equal(&rt, &"the pass", &pass.calls(), &3);
+    equal(&rt, &"all", &turns.close(pass).count, &4);
 }
 
 fn counts_from_one(told: &[u64]) -> bool {
-    told.iter()
-        .enumerate()
-        .all(|(i, told)| *told == (i as u64).wrapping_add(1))
+    for (index, number) in told.iter().enumerate() {
+        if *number != (index as u64).wrapping_add(1) {
+            return false;
+        }
+    }
+    true
+}
+
+// Whether the answers to two threads are each of the numbers up to 20,000 once.
+fn are_each_once(rt: &impl Abort, mut told: Vec<u64>, more: &[u64]) -> bool {
+    told.extend_from_slice(more).expect(rt, "memory");
+    told.sort().expect(rt, "memory");
+    told.len() == 20_000 && counts_from_one(&told)
 }
 
 // Two threads take 10,000 turns each, and each of the numbers up to 20,000 is returned once.
 #[test]
-fn two_threads_are_told_each_number_once(rt: HostRuntime) -> Result<(), Fail> {
-    let first_told = vec![in rt.alloc(); 0; 10_000]?;
-    let second_told = vec![in rt.alloc(); 0; 10_000]?;
+fn two_threads_are_told_each_number_once(rt: HostRuntime) {
+    let first_told = vec![in rt.alloc(); 0; 10_000].expect(&rt, "memory");
+    let second_told = vec![in rt.alloc(); 0; 10_000].expect(&rt, "memory");
     let Ok((turns, mut pass)) = Turns::new(rt.alloc(), Counter { count: 0 }) else {
         panic!(rt; "no memory")
     };
     let other = turns.split(&mut pass);
-    let ((mut told, mut pass), (more, other)) = in_two_threads(
+    let ((told, mut pass), (more, other)) = in_two_threads(
         &rt,
         &turns,
         (first_told, pass),
@@ -170,9 +179,6 @@ fn two_threads_are_told_each_number_once(rt: HostRuntime) -> Result<(), Fail> {
     );
     assert!(rt; pass.calls() == 10_000 && other.calls() == 10_000);
     turns.meet(&mut pass, other);
-    assert_eq!(rt; turns.close(pass).count, 20_000);
-    told.extend_from_slice(&more)?;
-    told.sort()?;
-    assert!(rt; told.len() == 20_000 && counts_from_one(&told));
-    Ok(())
+    equal(&rt, &"all", &turns.close(pass).count, &20_000);
+    assert!(rt; are_each_once(&rt, told, &more));
 }
