@@ -47,6 +47,9 @@ class Client:
     def __exit__(self, *_):
         self.socket.close()
 
+    def fileno(self):
+        return self.socket.fileno()
+
     def send(self, sent):
         self.socket.sendall(sent)
 
