@@ -162,7 +162,7 @@ class Serve(live.Case):
                     self.check(f"{len(put)} moments", [None] + [it["created"] for it in shown[:-1]], [it.get("noncurrent_since") for it in shown])
 
     def test_long_replies(self):
-        """With twenty workers, seventeen clients ask for 400 versions of a key, and do not read. Sixteen replies come, and the last one waits in
+        """With twenty workers, seventeen clients ask for 200 versions of a key, and do not read. Sixteen replies come, and the last one waits in
         vain until one of them was read. Meanwhile others are answered, but for the versions of a key."""
         tags = {f"{it}".rjust(128, "\x01"): "\x01" * 256 for it in range(10)}
         show = request("GET", "/buckets/load/objects/long")
@@ -171,9 +171,9 @@ class Serve(live.Case):
                 client.ask(MAKE)
                 client.ask(request("PUT", "/buckets/load/versioning", '{"Status":"Enabled"}'))
                 put = request("PUT", "/buckets/load/objects/long", json.dumps({"size": 1, "tags": tags}))
-                self.check("versions are put", [201] * 400, [client.ask(put)[0] for _ in range(400)])
+                self.check("versions are put", [201] * 200, [client.ask(put)[0] for _ in range(200)])
                 self.check("another key is put", 201, client.ask(put_object("short"))[0])
-            clients = [held.enter_context(server.client()) for _ in range(17)]
+            clients = [held.enter_context(server.client(room=4096)) for _ in range(17)]
             for client in clients:
                 client.send(show)
             begun = begin_to_come(clients, 16)
@@ -183,13 +183,13 @@ class Serve(live.Case):
                 self.check("a put beside them", 201, other.ask(put_object("beside"))[0])
                 self.check("a query beside them", 200, other.ask(SHOW)[0])
             status, body = begun[0].reply()
-            self.check("one is read to its end", (200, 400), (status, len(json.loads(body)["versions"])))
+            self.check("one is read to its end", (200, 200), (status, len(json.loads(body)["versions"])))
             self.check("then the last one begins to come", [last], begin_to_come([last], 1))
             short = held.enter_context(server.client())
             short.send(request("GET", "/buckets/load/objects/short"))
             self.check("the versions of another key wait", [], begin_to_come([short], 0))
             status, body = last.reply()
-            self.check("the last one is read to its end", (200, 400), (status, len(json.loads(body)["versions"])))
+            self.check("the last one is read to its end", (200, 200), (status, len(json.loads(body)["versions"])))
             status, body = short.reply()
             self.check("then those of the other key come", (200, 1), (status, len(json.loads(body)["versions"])))
 
