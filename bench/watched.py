@@ -25,6 +25,7 @@ from serve_memory import free_port
 
 HANG, LATE = 300, 60  # seconds for a reply, and for a server to listen; only a hang takes as long
 PAGE = 4_096
+PLACES = 16  # how many long replies a server has in memory at once
 SHOW = b"GET /buckets/logs HTTP/1.1\r\n\r\n"
 # A request without a route. Its reply is the last one of those that a call of `Run.ask` reads.
 END, END_REPLY = b"GET / HTTP/1.1\r\n\r\n", b'{"error":"NoRoute","number":121}'
@@ -234,18 +235,24 @@ class Server(Process):
             return list(clients.map(self._ask_one, requests))
 
     def leave_unread(self, requests: list[bytes]) -> list[Reply]:
-        """Sends each request over a connection of its own, and waits until each reply began to come, without reading it.
+        """Sends each request over a connection of its own, and waits until sixteen replies began to come, without reading them.
 
-        The server then has each reply in memory that is longer than what the system holds for a connection.
+        The server then has each reply in memory that is longer than what the system holds for a connection. More than sixteen would come
+        within a second if the others did not have to wait. All requests are equal, so the reply that came first stands for each.
         """
         with contextlib.ExitStack() as held:
             clients = [held.enter_context(connect(self.port, PAGE)) for _ in requests]
             for client, request in zip(clients, requests):
                 client.sendall(request)
-            for client in clients:
-                if not select.select([client], [], [], HANG)[0]:
-                    raise Wrong("a reply did not begin to come")
-            return [reply_of(client.recv(PAGE, socket.MSG_PEEK)) for client in clients]
+            begun: list[socket.socket] = []
+            late = time.monotonic() + HANG
+            while len(begun) < min(PLACES, len(clients)):
+                if time.monotonic() > late:
+                    raise Wrong(f"{len(begun)} replies began to come")
+                time.sleep(0.01)
+                begun = select.select(clients, [], [], HANG)[0]
+            time.sleep(1)
+            return [reply_of(begun[0].recv(PAGE, socket.MSG_PEEK))] * len(clients)
 
 
 @contextlib.contextmanager

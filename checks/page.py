@@ -47,7 +47,7 @@ def text(entries: list[table.Entry]) -> str:
     told = {crate: found for crate, found in by_crate.items() if any(map(has_rows, found))}
     lines = [INTRODUCTION, *paragraph(f"Counted: {summary(entries)}."),
              *paragraph(f"These calls may wait, and their clauses hold if they return: {labels(it.call for it in entries if it.call.waits)}. "
-                        "So may `ask` of a `Teller` that takes turns (`Seated`).")]
+                        "So may `ask` and `answered` of a `Teller` that takes turns (`Seated`).")]
     for crate, found in told.items():
         lines += [f"## {crate}", "", "| Call | Answer | Clause | Shown by |", "|---|---|---|---|",
                   *(row for it in found if has_rows(it) for row in rows(it)), "", *paragraph(without_rows(found))]

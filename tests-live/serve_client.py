@@ -25,16 +25,21 @@ def put_object(key, **more):
 
 
 class Client:
-    """One connection, and what came by it and was not taken yet."""
+    """One connection, and what came by it and was not taken yet. `room` is how many bytes the system holds that were not taken."""
 
-    def __init__(self, port, patience=LIMIT):
+    def __init__(self, port, patience=LIMIT, room=None):
         # A server that was just started may not listen yet.
         late = time.monotonic() + LIMIT
         while True:
             try:
-                self.socket = socket.create_connection((HOST, port), patience)
+                self.socket = socket.socket()
+                self.socket.settimeout(patience)
+                if room:
+                    self.socket.setsockopt(socket.SOL_SOCKET, socket.SO_RCVBUF, room)
+                self.socket.connect((HOST, port))
                 break
             except ConnectionRefusedError:
+                self.socket.close()
                 if time.monotonic() > late:
                     raise TimeoutError(f"timed out after {LIMIT} s: nobody listens on port {port}") from None
                 time.sleep(0.01)
@@ -46,6 +51,9 @@ class Client:
 
     def __exit__(self, *_):
         self.socket.close()
+
+    def fileno(self):
+        return self.socket.fileno()
 
     def send(self, sent):
         self.socket.sendall(sent)
@@ -121,8 +129,8 @@ class Server:
             self.process.kill()
             self.process.wait()
 
-    def client(self):
-        return Client(self.port)
+    def client(self, **how):
+        return Client(self.port, **how)
 
     def stop(self, number=signal.SIGTERM):
         """Sends a signal and waits; answers the status, a signal's number negative."""

@@ -1,11 +1,14 @@
 #!/usr/bin/env -S python3 -B
 """Serves real clients, and shows that each is answered, that a client that fails costs its own connection only, and that the
 journal then has what was acknowledged: requests one after another, slow ones, half ones, resets, 64 connections at once, 1,000
-in turn, a stop by SIGTERM, and fifty kills by signal 9 under load."""
+in turn, long replies that are not read, a stop by SIGTERM, and fifty kills by signal 9 under load."""
+import contextlib
 import itertools
 import json
 import random
+import select
 import threading
+import time
 
 import live
 from serve_client import LIMIT, Server, at_once, put_object, request
@@ -40,6 +43,15 @@ class Load:
     def agrees(self, keys):
         """Whether these keys of a journal are the acknowledged ones, each once, and at most sent ones besides."""
         return len(keys) == len(set(keys)) and self.acked <= set(keys) <= self.sent
+
+
+def begin_to_come(clients, count):
+    """The clients to whom a reply began to come, one second after there were so many."""
+    late = time.monotonic() + LIMIT
+    while len(select.select(clients, [], [], 0.1)[0]) < count and time.monotonic() < late:
+        time.sleep(0.01)
+    time.sleep(1)
+    return select.select(clients, [], [], 0)[0]
 
 
 class Serve(live.Case):
@@ -148,6 +160,38 @@ class Serve(live.Case):
                     self.check(f"{len(put)} versions", put, [(it["size"], it["tags"]) for it in shown])
                     self.check(f"{len(put)} numbers", [str(it) for it in range(len(put), 0, -1)], [it["version"] for it in shown])
                     self.check(f"{len(put)} moments", [None] + [it["created"] for it in shown[:-1]], [it.get("noncurrent_since") for it in shown])
+
+    def test_long_replies(self):
+        """With twenty workers, seventeen clients ask for 200 versions of a key, and do not read. Sixteen replies come, and the last one waits in
+        vain until one of them was read. Meanwhile others are answered, but for the versions of a key."""
+        tags = {f"{it}".rjust(128, "\x01"): "\x01" * 256 for it in range(10)}
+        show = request("GET", "/buckets/load/objects/long")
+        with Server(self.program, self.folder / "served", "--workers", "20") as server, contextlib.ExitStack() as held:
+            with server.client() as client:
+                client.ask(MAKE)
+                client.ask(request("PUT", "/buckets/load/versioning", '{"Status":"Enabled"}'))
+                put = request("PUT", "/buckets/load/objects/long", json.dumps({"size": 1, "tags": tags}))
+                self.check("versions are put", [201] * 200, [client.ask(put)[0] for _ in range(200)])
+                self.check("another key is put", 201, client.ask(put_object("short"))[0])
+            clients = [held.enter_context(server.client(room=4096)) for _ in range(17)]
+            for client in clients:
+                client.send(show)
+            begun = begin_to_come(clients, 16)
+            self.check("sixteen replies begin to come", 16, len(begun))
+            [last] = [client for client in clients if client not in begun]
+            with server.client() as other:
+                self.check("a put beside them", 201, other.ask(put_object("beside"))[0])
+                self.check("a query beside them", 200, other.ask(SHOW)[0])
+            status, body = begun[0].reply()
+            self.check("one is read to its end", (200, 200), (status, len(json.loads(body)["versions"])))
+            self.check("then the last one begins to come", [last], begin_to_come([last], 1))
+            short = held.enter_context(server.client())
+            short.send(request("GET", "/buckets/load/objects/short"))
+            self.check("the versions of another key wait", [], begin_to_come([short], 0))
+            status, body = last.reply()
+            self.check("the last one is read to its end", (200, 200), (status, len(json.loads(body)["versions"])))
+            status, body = short.reply()
+            self.check("then those of the other key come", (200, 1), (status, len(json.loads(body)["versions"])))
 
     def test_killed_under_load(self):
         """Kills the server by signal 9 under load, and starts it again on the same folder."""

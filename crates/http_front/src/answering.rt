@@ -71,7 +71,10 @@ pub(crate) fn say_no_memory<W: Replies>(out: &mut W) -> SessionEnd
     ensures said { SaysNoMemory W.Replies out.old out.new result }
     ensures only_says { OnlySays W.Replies out.old out.new (result ≡ SessionEnd.WriteFault) }
 {
-    match out.say_bad(&Bad::Desk(DeskFault::NoMemory), no_memory()) {
+    let bad = Bad::Desk(DeskFault::NoMemory);
+    let said = out.say_bad(&bad, no_memory());
+    drop(bad);
+    match said {
         Ok(()) => SessionEnd::NoMemory,
         Err(_) => SessionEnd::WriteFault,
     }
@@ -159,14 +162,22 @@ fn say_stack<W: Replies>(
     }
 }
 
+/// Whether the reply of an answer is said in pieces: it shows more than 32 versions of a key.
+pub fn is_in_pieces(acked: &Acked) -> bool {
+    match acked.reply() {
+        Ok(Reply::StackShown { key: _, stack }) => stack.versions().len() > WHOLE,
+        _ => false,
+    }
+}
+
 // Says an answer that is not short: the versions of a key in pieces if there are many, and anything else whole.
 fn say_long<W: Replies>(alloc: Global, out: &mut W, acked: &Acked) -> Result<(), SessionEnd>
     requires long { ¬ (IsShort acked.now.reply) }
     ensures said { IsSaid W.Replies out.old out.new (Ok acked.now) result }
     ensures only_says { OnlySays W.Replies out.old out.new (IsErrOf result SessionEnd.WriteFault) }
 {
-    if let Ok(Reply::StackShown { key, stack }) = acked.reply() {
-        if stack.versions().len() > WHOLE {
+    if is_in_pieces(acked) {
+        if let Ok(Reply::StackShown { key, stack }) = acked.reply() {
             return say_stack(alloc, out, acked, key, stack);
         }
     }
@@ -199,7 +210,10 @@ fn say_fault<W: Replies>(out: &mut W, room: &mut [u8], fault: DeskFault) -> Resu
 {
     match print_fault(room, &fault) {
         Ok(size) => {
-            say(out, &Bad::Desk(fault), &room[..size])?;
+            let bad = Bad::Desk(fault);
+            let said = say(out, &bad, &room[..size]);
+            drop(bad);
+            said?;
             go_on_after(fault)
         }
         Err(_) => unreachable!(),
@@ -231,7 +245,11 @@ fn answer<W: Replies, T: Teller>(
     ensures only_says { OnlySays W.Replies out.old out.new (IsErrOf result SessionEnd.WriteFault) }
 {
     match teller.ask(ask) {
-        Ok(acked) => say_reply(alloc, out, room, &acked),
+        Ok(acked) => {
+            let said = say_reply(alloc, out, room, &acked);
+            drop(acked);
+            said
+        }
         Err(fault) => say_fault(out, room, fault),
     }
 }
@@ -246,8 +264,15 @@ fn say_bad<W: Replies>(alloc: Global, out: &mut W, bad: http_asks::Bad) -> Resul
 {
     let bad = Bad::Message(bad);
     match print_bad(alloc, &bad) {
-        Ok(text) => say(out, &bad, &text),
-        Err(_) => Err(say_no_memory(out)),
+        Ok(text) => {
+            let said = say(out, &bad, &text);
+            drop(bad);
+            said
+        }
+        Err(_) => {
+            drop(bad);
+            Err(say_no_memory(out))
+        }
     }
 }
 
@@ -274,7 +299,7 @@ fn go_on_unless(last: bool) -> Result<(), SessionEnd>
     if last { Err(SessionEnd::Ended) } else { Ok(()) }
 }
 
-// Answers an ask, and drops it.
+// Answers an ask, drops it, and tells the teller that its answer is no longer in memory.
 fn answer_asked<W: Replies, T: Teller>(
     alloc: Global,
     ask: Ask,
@@ -288,7 +313,10 @@ fn answer_asked<W: Replies, T: Teller>(
     ensures room { 16384 ≤ length room.new }
     ensures only_says { OnlySays W.Replies out.old out.new (IsErrOf result SessionEnd.WriteFault) }
 {
-    answer(alloc, &ask, out, room, teller)
+    let said = answer(alloc, &ask, out, room, teller);
+    drop(ask);
+    teller.answered();
+    said
 }
 
 fn answer_heard<W: Replies, T: Teller>(

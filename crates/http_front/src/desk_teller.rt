@@ -12,4 +12,6 @@ impl<D: Disk + Drop, C: Clock + Drop> Teller for Desk<D, C> {
     fn ask(&mut self, ask: &Ask) -> Result<Acked, DeskFault> {
         self.submit(ask)
     }
+
+    fn answered(&mut self) {}
 }

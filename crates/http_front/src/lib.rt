@@ -13,7 +13,7 @@ mod teller;
 mod texts;
 mod writer_replies;
 
-pub use answering::SessionEnd;
+pub use answering::{SessionEnd, is_in_pieces};
 pub use bad::Bad;
 pub use http_asks::{Buffer, FramingRefusal, Heard, MessageStop, Reader};
 pub use http_wire::{MemorySource, ReaderSource, Source};

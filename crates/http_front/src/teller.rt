@@ -1,5 +1,5 @@
 // Who answers asks.
-ghost use Rattle.std.specs.Prelude.{Result};
+ghost use Rattle.std.specs.Prelude.{◌≡◌, Result};
 ghost use Rattle.office_types.specs.declared.command.Ask.{Ask};
 ghost use Rattle.desk_core.specs.Answers.{Answer};
 ghost use Rattle.desk_core.specs.declared.fault.DeskFault.{DeskFault};
@@ -19,4 +19,8 @@ pub trait Teller {
     /// Those of `DeskFault`. It takes further asks after each of them.
     fn ask(&mut self, ask: &Ask) -> Result<Acked, DeskFault>
         ensures moves { moves self.old ask.now result self.new };
+
+    /// The answer to the last ask was said, or was given up, and is no longer in memory.
+    fn answered(&mut self)
+        ensures { self.new ≡ self.old };
 }

@@ -86,6 +86,8 @@ impl Teller for FullTeller {
         }
         Err(DeskFault::JournalFull)
     }
+
+    fn answered(&mut self) {}
 }
 
 /// The calls that fail, each kind counted from 1: reads, texts, an ask with a store fault, and an ask that runs out of
