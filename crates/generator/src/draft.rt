@@ -1,5 +1,5 @@
 // Commands in numbers, whose names and keys are not written out yet.
-ghost use Rattle.std.specs.Prelude.{◌≡◌, [], ◌∷◌, ◌++◌, decimal, string_bytes, true, IfOk};
+ghost use Rattle.std.specs.Prelude.{◌≡◌, [], ◌∷◌, ◌++◌, decimal, string_bytes, true, IfOk, OnOk};
 ghost use Rattle.generator.specs.Drafts.{name_of, key_named, drafted_id, prices, rule_named, rules_set, draft_command};
 
 use class_rules::Class;
@@ -59,36 +59,37 @@ pub(crate) enum Draft {
     },
 }
 
-// A text of these letters and a number after them.
-fn numbered(alloc: Global, letters: &str, number: u64) -> Result<String, AllocError>
-    ensures { IfOk result (λ text. string_bytes text ≡ letters.now ++ decimal number) }
+// Writes these letters and a number after them, in place of what the text held.
+fn write_numbered(text: &mut String, letters: &str, number: u64) -> Result<(), AllocError>
+    ensures { OnOk result (string_bytes text.new ≡ letters.now ++ decimal number) }
 {
-    let mut text = String::with_capacity(alloc, 24)?;
+    text.clear();
     text.push_str(letters)?;
     let mut digits = itoa::Buffer::new();
     text.push_str(digits.format(number))?;
-    Ok(text)
+    Ok(())
 }
 
-// The name of a bucket.
-pub(crate) fn bucket_name(alloc: Global, bucket: u64) -> Result<BucketName, NoMemory>
+// The name of a bucket, which is first written into the text.
+pub(crate) fn bucket_name(
+    alloc: Global,
+    text: &mut String,
+    bucket: u64,
+) -> Result<BucketName, NoMemory>
     ensures { IfOk result (λ name. name ≡ name_of bucket) }
 {
-    let Ok(text) = numbered(alloc, "gen-", bucket) else {
-        return Err(NoMemory);
-    };
-    match BucketName::read(alloc, &text) {
+    write_numbered(text, "gen-", bucket)?;
+    match BucketName::read(alloc, text) {
         Ok(name) => Ok(name),
         Err(_) => Err(NoMemory),
     }
 }
 
-fn key_of(alloc: Global, key: u64) -> Result<Key, NoMemory>
+// A key, which is first written into the text.
+fn key_of(alloc: Global, text: &mut String, key: u64) -> Result<Key, NoMemory>
     ensures { IfOk result (λ named. named ≡ key_named key) }
 {
-    let Ok(text) = numbered(alloc, "k", key) else {
-        return Err(NoMemory);
-    };
+    write_numbered(text, "k", key)?;
     match Key::read(alloc, text.as_bytes()) {
         Ok(key) => Ok(key),
         Err(_) => Err(NoMemory),
@@ -188,20 +189,20 @@ fn configuration(alloc: Global) -> Result<RuleSet, NoMemory>
 }
 
 impl Draft {
-    // The command, with its names and keys.
-    pub(crate) fn command(&self, alloc: Global) -> Result<Command, NoMemory>
+    // The command, with its names and keys, which are written into the text one after another.
+    pub(crate) fn command(&self, alloc: Global, text: &mut String) -> Result<Command, NoMemory>
         ensures { IfOk result (λ command. command ≡ draft_command self.now) }
     {
         let command = match *self {
             Draft::CreateBucket { bucket } => Command::CreateBucket {
-                bucket: bucket_name(alloc, bucket)?,
+                bucket: bucket_name(alloc, text, bucket)?,
             },
             Draft::Enable { bucket } => Command::SetVersioning {
-                bucket: bucket_name(alloc, bucket)?,
+                bucket: bucket_name(alloc, text, bucket)?,
                 enabled: true,
             },
             Draft::SetRules { bucket } => Command::SetRules {
-                bucket: bucket_name(alloc, bucket)?,
+                bucket: bucket_name(alloc, text, bucket)?,
                 rules: configuration(alloc)?,
             },
             Draft::SetTariff => Command::SetTariff {
@@ -213,24 +214,24 @@ impl Draft {
                 size,
                 class,
             } => Command::Put {
-                bucket: bucket_name(alloc, bucket)?,
-                key: key_of(alloc, key)?,
+                bucket: bucket_name(alloc, text, bucket)?,
+                key: key_of(alloc, text, key)?,
                 size: size_of(size)?,
                 class,
                 tags: no_tags(alloc)?,
             },
             Draft::Delete { bucket, key } => Command::Delete {
-                bucket: bucket_name(alloc, bucket)?,
-                key: key_of(alloc, key)?,
+                bucket: bucket_name(alloc, text, bucket)?,
+                key: key_of(alloc, text, key)?,
             },
             Draft::DeleteVersion { bucket, key, id } => Command::DeleteVersion {
-                bucket: bucket_name(alloc, bucket)?,
-                key: key_of(alloc, key)?,
+                bucket: bucket_name(alloc, text, bucket)?,
+                key: key_of(alloc, text, key)?,
                 id: version_id(id),
             },
             Draft::StartUpload { bucket, key } => Command::StartUpload {
-                bucket: bucket_name(alloc, bucket)?,
-                key: key_of(alloc, key)?,
+                bucket: bucket_name(alloc, text, bucket)?,
+                key: key_of(alloc, text, key)?,
                 class: Class::Standard,
                 tags: no_tags(alloc)?,
             },
@@ -240,17 +241,17 @@ impl Draft {
                 part,
                 size,
             } => Command::PutPart {
-                bucket: bucket_name(alloc, bucket)?,
+                bucket: bucket_name(alloc, text, bucket)?,
                 upload,
                 part,
                 size,
             },
             Draft::Complete { bucket, upload } => Command::Complete {
-                bucket: bucket_name(alloc, bucket)?,
+                bucket: bucket_name(alloc, text, bucket)?,
                 upload,
             },
             Draft::Act { bucket } => Command::Act {
-                bucket: bucket_name(alloc, bucket)?,
+                bucket: bucket_name(alloc, text, bucket)?,
             },
         };
         Ok(command)

@@ -72,6 +72,8 @@ pub(crate) struct Work {
     desk: Desk<MemoryDisk, PlaceClock>,
     place: Place,
     answers: AnswerCounts,
+    // Names are written into this text before they are read.
+    text: String,
 }
 
 // Asks a desk that is not stale. Over a disk that does not fail, only memory can run out.
@@ -205,8 +207,9 @@ fn kept_in(alloc: Global, desk: &mut Desk<MemoryDisk, PlaceClock>) -> Result<Kep
         → IfOk result (λ kept. AreKept 4 (progress number made) kept) }
 {
     let mut kept = Kept::none();
+    let mut text = String::new(alloc);
     for bucket in 0..4 {
-        let said = ask_bucket(desk, bucket_name(alloc, bucket)?)?;
+        let said = ask_bucket(desk, bucket_name(alloc, &mut text, bucket)?)?;
         kept.add(&said);
         drop(said);
     }
@@ -234,6 +237,7 @@ impl Work {
             desk,
             place: Place::before(number),
             answers: AnswerCounts::none(),
+            text: String::new(alloc),
         })
     }
 
@@ -245,7 +249,7 @@ impl Work {
         ensures number { OnOk result (self.new.number ≡ self.old.number) }
         ensures made { OnOk result (self.new.place.made ≡ self.old.place.made + 1) }
     {
-        let command = self.place.next().command(alloc)?;
+        let command = self.place.next().command(alloc, &mut self.text)?;
         let said = ask_command(&mut self.desk, command)?;
         self.answers.note(said.reply());
         drop(said);
