@@ -1,5 +1,8 @@
 -- What is said.
-use Rattle.std.specs.Prelude.{ℕ, List, [], ◌∷◌, codes, Option, Some, None, Result, Ok, Err}
+use Rattle.std.specs.Prelude.{ℕ, nat_lt, length, Bool, false, List, [], ◌∷◌, codes, Option, Some, None, Result, Ok, Err}
+use Rattle.office_types.specs.declared.refusal.Refusal.{Refusal}
+use Rattle.office_types.specs.declared.reply.Reply.{Reply}
+use Rattle.office_types.specs.declared.reply.Reply.TheVariants.{StackShown}
 use Rattle.std.specs.List.{flat_map}
 use Rattle.serde_json.specs.Data.{string}
 use Rattle.serde_json.specs.Written.{compact_text}
@@ -237,6 +240,11 @@ text_of (Err fault) = fault_text fault
 abbrev pub bad_text_of : Bad → List ℕ
 bad_text_of (Message bad) = told_text (refused_of bad)
 bad_text_of (Desk fault) = fault_text fault
+
+-- the reply is said in pieces: it shows more than 32 versions of a key (own)
+abbrev pub is_said_in_pieces : Result Reply Refusal → Bool
+is_said_in_pieces (Ok (StackShown key stack)) = nat_lt 32 (length stack.versions)
+is_said_in_pieces other = false
 
 -- ---- a session
 

@@ -18,7 +18,7 @@ ghost use Rattle.http_front.specs.Puts.{PutsOut};
 ghost use Rattle.http_front.specs.Saying.{OnlySays, Says, SaysFront};
 ghost use Rattle.http_front.specs.Session.{sides, Session};
 ghost use Rattle.http_front.specs.Talk.{SaysNoMemory, IsSaid, IsRefusedBy, AnswersOne, Talked, Went};
-ghost use Rattle.http_front.specs.Texts.{bad_text_of};
+ghost use Rattle.http_front.specs.Texts.{bad_text_of, is_said_in_pieces};
 
 use crate::bad::Bad;
 use crate::printing::{print_fault, print_query, print_reply};
@@ -163,7 +163,9 @@ fn say_stack<W: Replies>(
 }
 
 /// Whether the reply of an answer is said in pieces: it shows more than 32 versions of a key.
-pub fn is_in_pieces(acked: &Acked) -> bool {
+pub fn is_in_pieces(acked: &Acked) -> bool
+    ensures { result ≡ is_said_in_pieces acked.now.reply }
+{
     match acked.reply() {
         Ok(Reply::StackShown { key: _, stack }) => stack.versions().len() > WHOLE,
         _ => false,
