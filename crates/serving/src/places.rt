@@ -30,7 +30,9 @@ impl LongReplies {
 
     /// Takes a place, and waits without end until one is free.
     pub(crate) fn take<R: Wait>(&self, rt: &R) {
-        let mut free = self.freed.wait_while(rt, self.free.lock(rt), |free| *free == 0);
+        let mut free = self
+            .freed
+            .wait_while(rt, self.free.lock(rt), |free| *free == 0);
         *free -= 1;
     }
 
