@@ -454,7 +454,7 @@ TABLE = {row.name: row for row in (
     # SECURITY: "a reply of 156 MB, 159 MB of memory".
     Row("reply-widest", "GET of a key, with tags of characters of four bytes", "versions", (10_000,), (200,),
         partial(replies, character=WIDEST), 1.1, REPLIES),
-    # SECURITY: "a reply of 19 MB; with 64 workers and clients that do not read below 200 MB of memory".
+    # SECURITY: "a reply of 19 MB; with 64 workers and clients that do not read 142 MB of memory".
     Row("reply-unread", "64 GETs of a key that are not read", "versions", (100_000,), (20_000,),
         partial(replies, count=64, character="", unread=True), 0.16, REPLIES),
     # PERFORMANCE: 38,789 puts a second.
