@@ -3,9 +3,10 @@
 
 PROGRAM is crates/office_cli/out/office_cli. Its high-water mark is what the system tells of the process (VmHWM of /proc/PID/status),
 read once it has answered all that it was asked and before its input ends: over 1,000 and 1,000,000 requests that are refused, so that
-the records do not grow; over an empty input on an office of VERSIONS versions (200,000), which opens it; and over the puts of these,
-under keys of 12 bytes. What a version takes is the last number less the first, over VERSIONS. FOLDER is /dev/shm if not given.
+the records do not grow; over an empty input on an office of VERSIONS versions (200,000), which opens it; over the puts of these,
+under keys of 12 bytes; and over the same puts under one rule for all keys. What a version takes is the last number less the first, over VERSIONS. FOLDER is /dev/shm if not given.
 """
+import itertools
 import os
 import re
 import subprocess
@@ -15,6 +16,8 @@ import threading
 
 BUCKET = b"PUT /buckets/logs HTTP/1.1\r\nHost: office\r\n\r\n"
 SHOW = b"GET /buckets/logs HTTP/1.1\r\nHost: office\r\n\r\n"
+RULES = b'{"Rules":[{"ID":"all","Status":"Enabled","Filter":{"Prefix":""},"Expiration":{"Days":365}}]}'
+SET = b"PUT /buckets/logs/lifecycle HTTP/1.1\r\nHost: office\r\nContent-Length: %d\r\n\r\n" % len(RULES) + RULES
 PUT = b"PUT /buckets/logs/objects/key%09d HTTP/1.1\r\nHost: office\r\nContent-Length: 13\r\n\r\n" b'{"size":1000}'
 
 
@@ -64,6 +67,14 @@ def main(program, folder, versions):
         mark, _ = high_water_kib(program, [])
         size = os.path.getsize("office-data/journal")
         print(f"versions {versions} opened high_water_kib {mark} journal_kib {size // 1024}", flush=True)
+        os.mkdir("ruled")
+        os.chdir("ruled")
+        subprocess.run([program, "init"], check=True, stdout=subprocess.DEVNULL)
+        mark, found = high_water_kib(program, itertools.chain([BUCKET, SET], (PUT % at for at in range(versions))))
+        if found != versions:
+            sys.exit(f"the bucket has {found} versions")
+        each = 1024 * (mark - empty) / versions
+        print(f"versions {versions} put under one rule high_water_kib {mark} bytes_a_version {each:.0f}", flush=True)
         os.chdir("/")
 
 
