@@ -21,8 +21,8 @@ def place(text):
     return len(text).to_bytes(2, "big") + text
 
 
-def frame(kind, fields):
-    entry = MOMENT.to_bytes(8, "big") + bytes([kind]) + place(b"logs") + fields
+def frame(kind, fields, at=MOMENT):
+    entry = at.to_bytes(8, "big") + bytes([kind]) + place(b"logs") + fields
     return len(entry).to_bytes(4, "big") + entry + b"\xa5"
 
 

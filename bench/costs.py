@@ -35,7 +35,7 @@ from typing import NamedTuple, Optional
 
 sys.dont_write_bytecode = True
 import acts  # noqa: E402
-from acts import frame, place  # noqa: E402
+from acts import MOMENT, frame, place  # noqa: E402
 from rules import configuration  # noqa: E402
 from watched import Office, Reply, Server, Wrong, command, lacking, running, serving, syncs  # noqa: E402
 
@@ -46,6 +46,7 @@ LEFT_OUT = 77  # as automake and meson have it
 TURNS, TRIES = 5, 3  # of the turns of a row the least processor time counts
 MADE, DONE, UNKNOWN = b"HTTP/1.1 201 ", b"HTTP/1.1 20", b'{"error":"UnknownField",'
 ACT, REMOVED = b"POST /buckets/logs/act HTTP/1.1\r\n\r\n", b'{"action":"remove",'
+ONE_TAG, COLDER = {"Tag": {"Key": "none", "Value": "none"}}, ("STANDARD_IA", "GLACIER_IR", "GLACIER", "DEEP_ARCHIVE")
 DUE, NONE_DUE = b"GET /buckets/logs/due HTTP/1.1\r\n\r\n", b'{"action":"none"}'
 CLASSES = ("STANDARD", "STANDARD_IA", "ONEZONE_IA", "GLACIER_IR", "GLACIER", "DEEP_ARCHIVE")
 NEVER = 365 * 70  # days after which nothing here is due
@@ -164,16 +165,16 @@ def greatest_tags(character: str) -> dict[str, str]:
     return {chr(97 + it) + character * 127: character * 256 for it in range(10)}
 
 
-def put_frame(key: bytes, name: str = "STANDARD", character: str = "") -> bytes:
-    """The frame of a put of one byte in a class, with the greatest tags of a character, or without tags."""
+def put_frame(key: bytes, name: str = "STANDARD", character: str = "", at: int = MOMENT) -> bytes:
+    """The frame of a put of one byte in a class at a moment, with the greatest tags of a character, or without tags."""
     tags = sorted(greatest_tags(character).items()) if character else []
     text = b"".join(place(it.encode()) + place(value.encode()) for it, value in tags)
-    return frame(5, place(key) + (1).to_bytes(8, "big") + bytes([CLASSES.index(name), len(tags)]) + text)
+    return frame(5, place(key) + (1).to_bytes(8, "big") + bytes([CLASSES.index(name), len(tags)]) + text, at)
 
 
-def write_stack(office: Office, count: int, character: str = "") -> None:
-    """Makes a journal of `count` versions of the key `k`, with tags as in `put_frame`."""
-    office.write([frame(1, b""), frame(2, b"\1"), *[put_frame(b"k", character=character)] * count])
+def write_stack(office: Office, count: int, character: str = "", apart: int = 0) -> None:
+    """Makes a journal of `count` versions of the key `k`, with tags as in `put_frame`, so many milliseconds apart."""
+    office.write([frame(1, b""), frame(2, b"\1"), *(put_frame(b"k", character=character, at=MOMENT + apart * it) for it in range(count))])
 
 
 def write_puts(office: Office, count: int) -> None:
@@ -328,10 +329,35 @@ def replies(office: Office, size: int, count: int = 1, character: str = "\1", un
 
 def put_on_stack(office: Office, size: int, rules: int = 0) -> Found:
     """Puts on a key with many versions, also under rules for noncurrent versions that match none of them."""
-    write_stack(office, size)
-    rule = {"Filter": {"Tag": {"Key": "none", "Value": "none"}}, "NoncurrentVersionExpiration": {"NoncurrentDays": 1}}
+    write_stack(office, size, apart=1 if rules else 0)
+    rule = {"Filter": ONE_TAG, "NoncurrentVersionExpiration": {"NoncurrentDays": NEVER}}
     puts = [message("PUT /buckets/logs/objects/k", b'{"size":1}')]
     return by_turns(office, [puts * (5 if rules else 1_000)] * TURNS + [puts * 6], MADE, (put_rules([rule] * rules),) if rules else ())
+
+
+def put_below_steps(office: Office, size: int, rules: int) -> Found:
+    """Puts on a key with many versions, of which each step of the rules, five each, takes one of the newest alone."""
+    write_stack(office, size, apart=1)
+    moves = [{"NoncurrentDays": NEVER - 4_000 + 1_000 * it, "StorageClass": name} for it, name in enumerate(COLDER)]
+    rule = {"Filter": ONE_TAG, "NoncurrentVersionExpiration": {"NoncurrentDays": NEVER + 1_000}, "NoncurrentVersionTransitions": moves}
+    before = (put_rules([rule] * rules), message("PUT /buckets/logs/objects/k", b'{"size":1000000,"tags":{"none":"none"}}'))
+    puts = [message("PUT /buckets/logs/objects/k", b'{"size":1}')]
+    return by_turns(office, [puts * 5] * TURNS + [puts * 6], MADE, before)
+
+
+def act_on_stack(office: Office, size: int, rules: int) -> Found:
+    """Has the oldest versions of a key removed by one rule, under others that match none of its versions."""
+    write_stack(office, size, apart=1)
+    other = {"Filter": ONE_TAG, "NoncurrentVersionExpiration": {"NoncurrentDays": NEVER}}
+    all_rules = [other] * (rules - 1) + [{"Filter": {"Prefix": ""}, "NoncurrentVersionExpiration": {"NoncurrentDays": 1}}]
+    return by_turns(office, [[ACT] * 5] * TURNS + [[ACT] * 6], REMOVED, (put_rules(all_rules),))
+
+
+def rules_on_stack(office: Office, size: int, rules: int) -> Found:
+    """Sets rules on a bucket with a key of many versions, of which they match none."""
+    write_stack(office, size, apart=1)
+    rule = {"Filter": ONE_TAG, "NoncurrentVersionExpiration": {"NoncurrentDays": NEVER}}
+    return by_turns(office, [[put_rules([rule] * rules)]] * 2 + [[]], DONE)
 
 
 def delete_versions(office: Office, size: int, newest: bool = False) -> Found:
@@ -459,8 +485,21 @@ TABLE = {row.name: row for row in (
         partial(replies, count=64, character="", unread=True), 0.16, REPLIES),
     # PERFORMANCE: 38,789 puts a second.
     Row("put-stack", "PUT on a key with versions", "versions", (190_000,), (2_000,), put_on_stack, None, "MiB", 0.052, syncs=2),
-    # SECURITY: "it looks at all versions of the key, for each rule".
-    Row("put-rules", "the same under 100 rules that match none of them", "versions", (50_000,), (2_000,), partial(put_on_stack, rules=100), syncs=2),
+    # SECURITY: "50,000 versions and 100 rules"; the aim is 50 ms.
+    Row("put-rules", "the same under 100 rules that match none of them", "versions", (50_000,), (6_000,),
+        partial(put_on_stack, rules=100), None, "MiB", 50, syncs=2),
+    # SECURITY: "199,000 versions and 1,000 rules"; the aim is 50 ms.
+    Row("put-rules-most", "the same under 1,000 rules", "versions", (199_000,), (2_000,),
+        partial(put_on_stack, rules=1_000), None, "MiB", 50, syncs=2),
+    # SECURITY: "of five steps each, which take one of the newest versions alone"; the aim is 50 ms.
+    Row("put-steps", "the same under 1,000 rules of five steps", "versions", (189_941,), (2_000,),
+        partial(put_below_steps, rules=1_000), None, "MiB", 50, syncs=2),
+    # SECURITY: "an act that removes the oldest of 150,000 versions"; the aim is 50 ms.
+    Row("act-rules", "POST act, which removes the oldest version", "versions", (150_000,), (2_000,),
+        partial(act_on_stack, rules=1_000), None, "MiB", 50, syncs=2),
+    # SECURITY: "setting 1,000 such rules". It is no bound of the aim.
+    Row("rules-versions", "PUT of 1,000 rules over a key with versions", "versions", (190_000,), (2_000,),
+        partial(rules_on_stack, rules=1_000), None, "MiB", 6_000),
     Row("delete-oldest", "DELETE of the oldest version", "versions", (50_000,), (1_000,), delete_versions, syncs=2),
     Row("delete-newest", "DELETE of the newest version", "versions", (50_000,), (1_000,), partial(delete_versions, newest=True), syncs=2),
     # PERFORMANCE: "Query, nothing due: 3 µs".

@@ -8,6 +8,7 @@ pub mod Doing
 pub mod Ending
 pub mod Gone
 pub mod Handed
+pub mod KeyStacks
 pub mod Moved
 pub mod Moves
 pub mod OpenStays

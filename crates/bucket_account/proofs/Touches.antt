@@ -2,8 +2,9 @@
 use Rattle.std.proofs.Common.{◌≡◌, ℕ, ◌+◌, List, refl, ap, sym, ◌∙◌, subst, Bool, true, false, not, cond}
 use Rattle.std.specs.Prelude.{Option, Some, None, Result, Ok, Err, IfSome, is_ok}
 use Rattle.std.specs.Ordering.{nat_cmp, is_eq}
-use Rattle.office_base.specs.Maps.{bytes_cmp, at_name, with_name, without_name, at_number, with_number, without_number}
+use Rattle.office_base.specs.Maps.{Rises, bytes_cmp, at_name, with_name, without_name, at_number, with_number, without_number}
 use Rattle.office_base.specs.Results.{◌>>=◌}
+use Rattle.office_base.specs.Tags.{Tag}
 use Rattle.office_base.specs.declared.version_id.VersionId.{VersionId}
 use Rattle.office_base.specs.declared.version_id.VersionId.TheVariants.{Null}
 use Rattle.rules_core.specs.Matching.{is_empty}
@@ -22,6 +23,7 @@ use Rattle.due_core.specs.declared.action.ActionKind.TheVariants as action
 use Rattle.due_core.specs.declared.action.Target.{Target}
 use Rattle.due_core.specs.declared.action.Target.TheVariants as target
 use Rattle.due_index.specs.Index.{IndexRecord, StandsFor, StandsButKey, StandsButUpload}
+use Rattle.due_index.proofs.Following.{FollowsIn}
 use Rattle.due_index.proofs.Touched.{KeepsRules, stands_but_key, stands_but_upload}
 use Rattle.plain_office.specs.Office.{Account}
 use Rattle.plain_office.specs.Changes.{stack_at, stacks_with, with_stack, with_upload, next_id, remove_version, add_version, move_version, add_part, remove_upload_at, remove_upload, effect}
@@ -39,6 +41,7 @@ use Rattle.bucket_account.specs.declared.counts.Counts.{Counts}
 use Rattle.bucket_account.specs.Changing.{change_of, DoesTold}
 use Rattle.bucket_account.specs.Counting.{AccountRecord}
 use Rattle.bucket_account.specs.Effects.{DoesEffect}
+use Rattle.bucket_account.proofs.KeyStacks.{FollowsAt, follows_written_at, follows_same_at, added_follows, gone_follows, moved_follows, tagged_follows}
 use Rattle.bucket_account.specs.Touching.{Touch, of_key, of_upload, of_all, touched, touched_at, StandsBut}
 
 -- ---- maps elsewhere
@@ -66,9 +69,11 @@ stack_elsewhere_by false key stack entries k apart = name_elsewhere key stack en
 
 -- ---- what stays
 
--- versioning, rules, all uploads and the versions of all other keys are the same
-pub record KeepsButKey (key : List ℕ) (before after : BucketRecord) : Type 0 where
+-- versioning, rules, all uploads and the versions of all other keys are the same; the key's noncurrent versions follow
+-- from those before
+pub record KeepsButKey (key : List ℕ) (touched : Option VersionId) (before after : BucketRecord) : Type 0 where
   pub rules : KeepsRules before after
+  pub follows : FollowsAt key touched before after
   pub others : (k : List ℕ) → (k ≡ key → ⊥) → at_name k after.stacks ≡ at_name k before.stacks
   pub uploads : (n : ℕ) → at_number n after.uploads ≡ at_number n before.uploads
 
@@ -80,23 +85,26 @@ pub record KeepsButUpload (number : ℕ) (before after : BucketRecord) : Type 0 
 
 -- nothing else has changed
 abbrev pub KeepsBut : Touch → BucketRecord → BucketRecord → Type 0
-KeepsBut (of_key key) before after = KeepsButKey key before after
+KeepsBut (of_key key touched) before after = KeepsButKey key touched before after
 KeepsBut (of_upload number) before after = KeepsButUpload number before after
 KeepsBut of_all before after = Unit {0}
 
-pub keeps_key : (key : List ℕ) (before after : BucketRecord) → KeepsRules before after → (stack : StackRecord)
-    → after.stacks ≡ stacks_with key stack before.stacks → after.uploads ≡ before.uploads → KeepsButKey key before after
-keeps_key key before after rules stack stacks uploads = record {
+pub keeps_key : (key : List ℕ) (touched : Option VersionId) (before after : BucketRecord) → KeepsRules before after → FollowsAt key touched before after → (stack : StackRecord)
+    → after.stacks ≡ stacks_with key stack before.stacks → after.uploads ≡ before.uploads → KeepsButKey key touched before after
+keeps_key key touched before after rules follows stack stacks uploads = record {
   rules = rules;
+  follows = follows;
   others = λ k apart. ap (at_name k) stacks ∙ stack_elsewhere_by (is_empty stack.versions) key stack before.stacks k apart;
   uploads = λ n. ap (at_number n) uploads;
 }
 
 -- a key that has these versions now
-pub keeps_written : (key : List ℕ) (before after : BucketRecord) → KeepsRules before after → (stack : StackRecord)
-    → after.stacks ≡ with_name key stack before.stacks → after.uploads ≡ before.uploads → KeepsButKey key before after
-keeps_written key before after rules stack stacks uploads = record {
+pub keeps_written : (key : List ℕ) (touched : Option VersionId) (before after : BucketRecord) → KeepsRules before after → (stack : StackRecord)
+    → FollowsIn touched (stack_at key before).versions stack.versions
+    → after.stacks ≡ with_name key stack before.stacks → after.uploads ≡ before.uploads → KeepsButKey key touched before after
+keeps_written key touched before after rules stack follows stacks uploads = record {
   rules = rules;
+  follows = follows_written_at key touched before after stack follows stacks;
   others = λ k apart. ap (at_name k) stacks ∙ name_elsewhere key stack before.stacks k apart;
   uploads = λ n. ap (at_number n) uploads;
 }
@@ -121,7 +129,7 @@ same_rules : (bucket : BucketRecord) → KeepsRules bucket bucket
 same_rules bucket = record { versioning = refl; rules = refl; since = refl }
 
 keeps_all : (touch : Touch) (bucket : BucketRecord) → KeepsBut touch bucket bucket
-keeps_all (of_key key) bucket = record { rules = same_rules bucket; others = λ k apart. refl; uploads = λ n. refl }
+keeps_all (of_key key touched) bucket = record { rules = same_rules bucket; follows = follows_same_at key touched bucket bucket refl; others = λ k apart. refl; uploads = λ n. refl }
 keeps_all (of_upload number) bucket = record { rules = same_rules bucket; stacks = λ k. refl; others = λ n apart. refl }
 keeps_all of_all bucket = tt
 
@@ -131,17 +139,27 @@ module _ (account : Account) where
   abbrev bucket : BucketRecord
   bucket = account.bucket
 
-  pub added : (key : List ℕ) (kind : Kind) (at : ℕ) → KeepsButKey key bucket (add_version key kind at account).bucket
-  added key kind at = keeps_key key bucket (add_version key kind at account).bucket (record { rules = refl; versioning = refl; since = refl }) (after_adding (next_id bucket) kind at (stack_at key bucket)) refl refl
+  module _ (rises : Rises bytes_cmp account.bucket.stacks) (key : List ℕ) where
+    pub added : (touched : Option VersionId) (kind : Kind) (at : ℕ) → KeepsButKey key touched bucket (add_version key kind at account).bucket
+    added touched kind at =
+        keeps_key key touched bucket (add_version key kind at account).bucket (record { rules = refl; versioning = refl; since = refl }) (added_follows account rises key touched kind at)
+        (after_adding (next_id bucket) kind at (stack_at key bucket)) refl refl
 
-  pub gone : (key : List ℕ) (id : VersionId) (at : ℕ) → KeepsButKey key bucket (remove_version key id at account).bucket
-  gone key id at = keeps_key key bucket (remove_version key id at account).bucket (record { rules = refl; versioning = refl; since = refl }) (after_removal id at (stack_at key bucket)) refl refl
+    pub gone : (touched : Option VersionId) (id : VersionId) (at : ℕ) → KeepsButKey key touched bucket (remove_version key id at account).bucket
+    gone touched id at =
+        keeps_key key touched bucket (remove_version key id at account).bucket (record { rules = refl; versioning = refl; since = refl }) (gone_follows account rises key touched id at)
+        (after_removal id at (stack_at key bucket)) refl refl
 
-  pub moved : (key : List ℕ) (id : VersionId) (to : Class) (at : ℕ) → KeepsButKey key bucket (move_version key id to at account).bucket
-  moved key id to at = keeps_key key bucket (move_version key id to at account).bucket (record { rules = refl; versioning = refl; since = refl }) (after_move id to at (stack_at key bucket)) refl refl
+    pub moved : (id : VersionId) (to : Class) (at : ℕ) → KeepsButKey key (Some id) bucket (move_version key id to at account).bucket
+    moved id to at =
+        keeps_key key (Some id) bucket (move_version key id to at account).bucket (record { rules = refl; versioning = refl; since = refl }) (moved_follows account rises key id to at)
+        (after_move id to at (stack_at key bucket)) refl refl
 
-  pub stacked : (key : List ℕ) (stack : StackRecord) → KeepsButKey key bucket (with_stack key stack bucket)
-  stacked key stack = keeps_key key bucket (with_stack key stack bucket) (record { rules = refl; versioning = refl; since = refl }) stack refl refl
+    pub tagged : (id : VersionId) (tags : List Tag) (at : ℕ) (stack : StackRecord) → stack_in key account ≡ Ok stack
+        → KeepsButKey key (Some id) bucket (with_stack key (after_tags id tags at stack) bucket)
+    tagged id tags at stack is =
+        keeps_key key (Some id) bucket (with_stack key (after_tags id tags at stack) bucket) (record { rules = refl; versioning = refl; since = refl }) (tagged_follows account rises key id tags at stack is)
+        (after_tags id tags at stack) refl refl
 
   pub started : (number next : ℕ) (upload : UploadRecord) → KeepsButUpload number bucket (record (with_upload number upload bucket) { next_upload = next })
   started number next upload = keeps_upload number bucket (record (with_upload number upload bucket) { next_upload = next }) (record { rules = refl; versioning = refl; since = refl }) upload refl refl
@@ -168,11 +186,15 @@ module _ (touch : Touch) (before : BucketRecord) where
   then_leaves (Ok x) f h = h x
   then_leaves (Err refusal) f h = tt
 
+  found_leaves : {A : Type 0} (r : Result A Refusal) (f : A → Change) → ((x : A) → r ≡ Ok x → Leaves touch before (f x)) → Leaves touch before (r >>= f)
+  found_leaves (Ok x) f h = h x refl
+  found_leaves (Err refusal) f h = tt
+
   unless_leaves : (test : Bool) (refusal : Refusal) (done : Account × Reply) → KeepsBut touch before done.0.bucket → Leaves touch before (refuse_if test refusal done)
   unless_leaves true refusal done h = tt
   unless_leaves false refusal done h = h
 
-module _ (t : ℕ) (account : Account) where
+module _ (t : ℕ) (account : Account) (rises : Rises bytes_cmp account.bucket.stacks) where
   abbrev its : BucketRecord
   its = account.bucket
 
@@ -181,24 +203,24 @@ module _ (t : ℕ) (account : Account) where
   by_versioning key Enabled = Ok (add_version key Marker t account, Deleted (Some (next_id account.bucket)))
   by_versioning key Suspended = Ok (add_version key Marker t account, Deleted (Some (next_id account.bucket)))
 
-  deleted_by : (key : List ℕ) (versioning : Versioning) → Leaves (of_key key) its (by_versioning key versioning)
+  deleted_by : (key : List ℕ) (versioning : Versioning) → Leaves (of_key key None) its (by_versioning key versioning)
   unfolding by_versioning
-  deleted_by key Unversioned = unless_leaves (of_key key) its (not (has_stack key account)) NoSuchKey (remove_version key Null t account, Deleted None) (gone account key Null t)
-  deleted_by key Enabled = added account key Marker t
-  deleted_by key Suspended = added account key Marker t
+  deleted_by key Unversioned = unless_leaves (of_key key None) its (not (has_stack key account)) NoSuchKey (remove_version key Null t account, Deleted None) (gone account rises key None Null t)
+  deleted_by key Enabled = added account rises key None Marker t
+  deleted_by key Suspended = added account rises key None Marker t
 
-  deleted_leaves : (key : List ℕ) → Leaves (of_key key) its (delete t key account)
+  deleted_leaves : (key : List ℕ) → Leaves (of_key key None) its (delete t key account)
   unfolding by_versioning
   deleted_leaves key = deleted_by key account.bucket.versioning
 
   -- a command leaves what it does not touch
   pub command_leaves : (asked : Command) → Leaves (touched its.next_upload asked) its (change_of t asked account)
-  command_leaves (command.Put name key size class tags) = added account key (kind.Object size class tags t) t
+  command_leaves (command.Put name key size class tags) = added account rises key None (kind.Object size class tags t) t
   command_leaves (command.Delete name key) = deleted_leaves key
   command_leaves (command.DeleteVersion name key id) =
-      then_leaves (of_key key) its (stack_in key account) _ (λ stack. then_leaves (of_key key) its (of_stack (found id stack.versions)) _ (λ version. gone account key id t))
+      then_leaves (of_key key None) its (stack_in key account) _ (λ stack. then_leaves (of_key key None) its (of_stack (found id stack.versions)) _ (λ version. gone account rises key None id t))
   command_leaves (command.SetTags name key id tags) =
-      then_leaves (of_key key) its (stack_in key account) _ (λ stack. then_leaves (of_key key) its (of_stack (tags_at id stack.versions)) _ (λ old. stacked account key (after_tags id tags t stack)))
+      found_leaves (of_key key (Some id)) its (stack_in key account) _ (λ stack is. then_leaves (of_key key (Some id)) its (of_stack (tags_at id stack.versions)) _ (λ old. tagged account rises key id tags t stack is))
   command_leaves (command.StartUpload name key class tags) = started account its.next_upload (its.next_upload + 1) (new_upload key class tags t)
   command_leaves (command.PutPart name number part size) =
       then_leaves (of_upload number) its (upload_in number account) _ (λ upload. unless_leaves (of_upload number) its _ _ _ (parted account number upload part size t))
@@ -208,7 +230,7 @@ module _ (t : ℕ) (account : Account) where
 
 -- ---- what a lifecycle action does
 
-module _ (chosen : Action) (account : Account) where
+module _ (chosen : Action) (account : Account) (rises : Rises bytes_cmp account.bucket.stacks) where
   removed_by : (number : ℕ) (o : Option UploadRecord) → at_number number account.bucket.uploads ≡ o
       → KeepsButUpload number account.bucket (remove_upload_at number chosen.since account).bucket
   removed_by number None is = rw is (keeps_all (of_upload number) account.bucket)
@@ -216,10 +238,10 @@ module _ (chosen : Action) (account : Account) where
 
   effect_by : (kind : ActionKind) (aim : Target) → chosen.kind ≡ kind → chosen.target ≡ aim → KeepsBut (touched_at chosen.key aim) account.bucket (effect chosen account).bucket
   unfolding effect
-  effect_by action.Remove (target.Version id) kind aims = rw (kind, aims) (gone account chosen.key id chosen.since)
-  effect_by (action.Transition to) (target.Version id) kind aims = rw (kind, aims) (moved account chosen.key id to chosen.since)
-  effect_by action.Marker (target.Version id) kind aims = rw (kind, aims) (added account chosen.key Marker chosen.since)
-  effect_by action.Abort (target.Version id) kind aims = rw (kind, aims) (keeps_all (of_key chosen.key) account.bucket)
+  effect_by action.Remove (target.Version id) kind aims = rw (kind, aims) (gone account rises chosen.key (Some id) id chosen.since)
+  effect_by (action.Transition to) (target.Version id) kind aims = rw (kind, aims) (moved account rises chosen.key id to chosen.since)
+  effect_by action.Marker (target.Version id) kind aims = rw (kind, aims) (added account rises chosen.key (Some id) Marker chosen.since)
+  effect_by action.Abort (target.Version id) kind aims = rw (kind, aims) (keeps_all (of_key chosen.key (Some id)) account.bucket)
   effect_by action.Remove (target.Upload number) kind aims = rw (kind, aims) (keeps_all (of_upload number) account.bucket)
   effect_by (action.Transition to) (target.Upload number) kind aims = rw (kind, aims) (keeps_all (of_upload number) account.bucket)
   effect_by action.Marker (target.Upload number) kind aims = rw (kind, aims) (keeps_all (of_upload number) account.bucket)
@@ -232,7 +254,7 @@ module _ (chosen : Action) (account : Account) where
 -- ---- the index stands for the rest
 
 pub stands_but : (touch : Touch) (index : IndexRecord) (before after : BucketRecord) → StandsFor index before → KeepsBut touch before after → StandsBut touch index after
-stands_but (of_key key) index before after stands keeps = stands_but_key index before after key stands keeps.rules keeps.others keeps.uploads
+stands_but (of_key key touched) index before after stands keeps = stands_but_key index before after key touched stands keeps.rules keeps.others keeps.uploads keeps.follows
 stands_but (of_upload number) index before after stands keeps = stands_but_upload index before after number stands keeps.rules keeps.stacks keeps.others
 stands_but of_all index before after stands keeps = tt
 
@@ -242,7 +264,7 @@ may_stand_but touch (Some index) before after stands keeps = stands_but touch in
 
 -- ---- after a command
 
-module _ (t : ℕ) (asked : Command) (whats : List What) (account : Account) (counts : Counts) (after : AccountRecord) where
+module _ (t : ℕ) (asked : Command) (whats : List What) (account : Account) (rises : Rises bytes_cmp account.bucket.stacks) (counts : Counts) (after : AccountRecord) where
   told_keeps : (told : Change) (result : Result Done Refusal) (touch : Touch) → DoesTold whats told account counts after result → Leaves touch account.bucket told → is_ok result ≡ true
       → KeepsBut touch account.bucket after.bucket
   told_keeps (Ok told) (Ok done) touch h leaves ok = subst (λ (b : BucketRecord). KeepsBut touch account.bucket b) (sym h.1.bucket) leaves
@@ -256,17 +278,17 @@ module _ (t : ℕ) (asked : Command) (whats : List What) (account : Account) (co
   stands_after next same result index h ok stands =
       may_stand_but (touched next asked) index account.bucket after.bucket stands
       (told_keeps (change_of t asked account) result (touched next asked) h
-      (subst (λ (n : ℕ). Leaves (touched n asked) account.bucket (change_of t asked account)) (sym same) (command_leaves t account asked)) ok)
+      (subst (λ (n : ℕ). Leaves (touched n asked) account.bucket (change_of t asked account)) (sym same) (command_leaves t account rises asked)) ok)
 
 -- ---- after a lifecycle action
 
 -- the index stands for the bucket but for what the action touched
-pub stands_acted : (chosen : Action) (account : Account) (whats : List What) (counts : Counts) (after : AccountRecord) (moved : Counts) (index : Option IndexRecord)
+pub stands_acted : (chosen : Action) (account : Account) → Rises bytes_cmp account.bucket.stacks → (whats : List What) (counts : Counts) (after : AccountRecord) (moved : Counts) (index : Option IndexRecord)
     → DoesEffect whats (effect chosen) account counts after (Ok moved)
     → IfSome index (λ i. StandsFor i account.bucket) → IfSome index (λ i. StandsBut (touched_at chosen.key chosen.target) i after.bucket)
-stands_acted chosen account whats counts after moved index h stands =
+stands_acted chosen account rises whats counts after moved index h stands =
     may_stand_but (touched_at chosen.key chosen.target) index account.bucket after.bucket stands
-    (subst (λ (b : BucketRecord). KeepsBut (touched_at chosen.key chosen.target) account.bucket b) (sym h.0.bucket) (effect_leaves chosen account))
+    (subst (λ (b : BucketRecord). KeepsBut (touched_at chosen.key chosen.target) account.bucket b) (sym h.0.bucket) (effect_leaves chosen account rises))
 
 -- the index stands for the same bucket
 pub stands_same : (index : Option IndexRecord) (before after : BucketRecord) → after ≡ before → IfSome index (λ i. StandsFor i before) → IfSome index (λ i. StandsFor i after)
@@ -276,11 +298,12 @@ stands_same index before after same stands = subst (λ (b : BucketRecord). IfSom
 
 -- a key has these versions now
 pub stands_but_written : (key : List ℕ) (index : Option IndexRecord) (start before after : BucketRecord) → before ≡ start → KeepsRules before after → (stack : StackRecord)
+    → FollowsIn None (stack_at key before).versions stack.versions
     → after.stacks ≡ with_name key stack before.stacks → after.uploads ≡ before.uploads
-    → IfSome index (λ i. StandsFor i start) → IfSome index (λ i. StandsButKey i after key)
-stands_but_written key index start before after is rules stack stacks uploads stands =
-    may_stand_but (of_key key) index before after (subst (λ (b : BucketRecord). IfSome index (λ i. StandsFor i b)) (sym is) stands)
-    (keeps_written key before after rules stack stacks uploads)
+    → IfSome index (λ i. StandsFor i start) → IfSome index (λ i. StandsButKey i after key None)
+stands_but_written key index start before after is rules stack follows stacks uploads stands =
+    may_stand_but (of_key key None) index before after (subst (λ (b : BucketRecord). IfSome index (λ i. StandsFor i b)) (sym is) stands)
+    (keeps_written key None before after rules stack follows stacks uploads)
 
 -- an upload has gone
 pub stands_but_removed : (number : ℕ) (index : Option IndexRecord) (before after : BucketRecord) → KeepsRules before after

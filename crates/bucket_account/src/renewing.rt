@@ -1,5 +1,5 @@
 // Renews the index of a bucket's next actions after a change, and reads the first of them.
-ghost use Rattle.std.specs.Prelude.{◌≡◌, IfOk, IfSome, Some};
+ghost use Rattle.std.specs.Prelude.{◌≡◌, IfOk, IfSome, Some, None};
 ghost use Rattle.office_base.specs.Maps.{at_number};
 ghost use Rattle.uploads.specs.Uploads.{UploadRecord};
 ghost use Rattle.due_core.specs.Choice.{choice};
@@ -10,20 +10,26 @@ ghost use Rattle.bucket_account.specs.Touching.{touched, touched_at, StandsBut};
 use due_core::{Action, Bucket, Target, chosen};
 use due_index::{DueIndex, see_order};
 use moments::Moment;
-use office_base::{Key, NoMemory};
+use office_base::{Key, NoMemory, VersionId};
 use office_types::Command;
 use std::alloc::Global;
 use std::mem;
 
-/// Renews what comes next on a key. If memory runs out, the index is dropped.
-pub(crate) fn renew_key(index: &mut Option<DueIndex>, bucket: &Bucket, key: &Key)
-    requires rest { IfSome index.old (λ index. StandsButKey index bucket.now key.now) }
+/// Renews what comes next on a key, of whose noncurrent versions the newest one and the one with the id may have
+/// changed. If memory runs out, the index is dropped.
+pub(crate) fn renew_key(
+    index: &mut Option<DueIndex>,
+    bucket: &Bucket,
+    key: &Key,
+    touched: Option<VersionId>,
+)
+    requires rest { IfSome index.old (λ index. StandsButKey index bucket.now key.now touched) }
     ensures stands { IfSome index.new (λ index. StandsFor index bucket.now) }
 {
     let Some(kept) = index else {
         return;
     };
-    if kept.renew_key(bucket, key).is_err() {
+    if kept.renew_key(bucket, key, touched).is_err() {
         drop(index.take());
     }
 }
@@ -41,14 +47,14 @@ pub(crate) fn renew_upload(index: &mut Option<DueIndex>, bucket: &Bucket, number
     }
 }
 
-/// Renews what comes next on the key of an upload that is there.
+/// Renews what comes next on the key of an upload that is there, after a version was put on the key.
 pub(crate) fn renew_key_of(index: &mut Option<DueIndex>, bucket: &Bucket, number: u64)
     requires rest { (upload : UploadRecord) × (at_number number bucket.now.uploads ≡ Some upload)
-        × IfSome index.old (λ index. StandsButKey index bucket.now upload.key) }
+        × IfSome index.old (λ index. StandsButKey index bucket.now upload.key None) }
     ensures stands { IfSome index.new (λ index. StandsFor index bucket.now) }
 {
     match bucket.uploads.get(&number) {
-        Some(upload) => renew_key(index, bucket, upload.key()),
+        Some(upload) => renew_key(index, bucket, upload.key(), None),
         None => unreachable!(),
     }
 }
@@ -72,10 +78,10 @@ pub(crate) fn renew(
     ensures stands { IfSome index.new (λ index. StandsFor index bucket.now) }
 {
     match command {
-        Command::Put { key, .. } => renew_key(index, bucket, key),
-        Command::Delete { key, .. } => renew_key(index, bucket, key),
-        Command::DeleteVersion { key, .. } => renew_key(index, bucket, key),
-        Command::SetTags { key, .. } => renew_key(index, bucket, key),
+        Command::Put { key, .. } => renew_key(index, bucket, key, None),
+        Command::Delete { key, .. } => renew_key(index, bucket, key, None),
+        Command::DeleteVersion { key, .. } => renew_key(index, bucket, key, None),
+        Command::SetTags { key, id, .. } => renew_key(index, bucket, key, Some(*id)),
         Command::StartUpload { .. } => renew_upload(index, bucket, next_upload),
         Command::PutPart { upload, .. } => renew_upload(index, bucket, *upload),
         Command::Abort { upload, .. } => renew_upload(index, bucket, *upload),
@@ -90,7 +96,7 @@ pub(crate) fn renew_target(index: &mut Option<DueIndex>, bucket: &Bucket, action
     ensures stands { IfSome index.new (λ index. StandsFor index bucket.now) }
 {
     match action.target {
-        Target::Version(_) => renew_key(index, bucket, &action.key),
+        Target::Version(id) => renew_key(index, bucket, &action.key, Some(id)),
         Target::Upload(number) => renew_upload(index, bucket, number),
     }
 }

@@ -8,8 +8,8 @@ use Rattle.uploads.specs.Uploads.{UploadRecord}
 use Rattle.due_core.specs.Buckets.{BucketRecord}
 use Rattle.due_core.specs.Choice.{comes_before, least}
 use Rattle.due_index.specs.Firsts.{asked_of_key, asked_of_upload, first_on_key, first_on_upload}
-use Rattle.due_index.specs.Index.{IndexRecord, next_on_key, next_on_upload, IsTied, SetsNextOnKey, SetsNextOnUpload, StandsFor}
-use Rattle.due_index.specs.Index.{HasNoKeys, HasNoUploads, StandsOnKeys, StandsOnUploads, KeepsKeys, KeepsUploads, HasTable}
+use Rattle.due_index.specs.Actions.{ActionsRecord, next_on_key, next_on_upload, IsTied, SetsNextOnKey, SetsNextOnUpload, ActionsStand}
+use Rattle.due_index.specs.Actions.{HasNoKeys, HasNoUploads, StandsOnKeys, StandsOnUploads, KeepsKeys, KeepsUploads, HasTable}
 use Rattle.due_index.specs.Table.{TableRecord, IsTable, rules_of}
 use Rattle.due_index.proofs.Tournaments.{decide}
 use Rattle.due_index.proofs.Renewing.{names, not_at}
@@ -41,7 +41,7 @@ unfolding first_on_upload
 no_upload bucket number none = ap (λ s. least comes_before (asked_of_upload bucket number bucket.rules s)) none ∙ no_upload_by bucket number bucket.rules
 
 -- without rules nothing comes first on any key
-pub no_rules : (index : IndexRecord) (bucket : BucketRecord) → bucket.rules ≡ None → HasNoKeys index → StandsOnKeys index bucket
+pub no_rules : (index : ActionsRecord) (bucket : BucketRecord) → bucket.rules ≡ None → HasNoKeys index → StandsOnKeys index bucket
 unfolding first_on_key
 no_rules index bucket is none =
     λ key. none key ∙ sym (ap (λ o. least comes_before (asked_of_key bucket key o (at_name key bucket.stacks))) is)
@@ -49,19 +49,19 @@ no_rules index bucket is none =
 -- ---- keys
 
 -- on each key but those that are left comes next what comes first
-pub record AreKeysLeft (start index : IndexRecord) (bucket : BucketRecord) (left : List (List ℕ × StackRecord)) : Type 0 where
+pub record AreKeysLeft (start index : ActionsRecord) (bucket : BucketRecord) (left : List (List ℕ × StackRecord)) : Type 0 where
   pub keys : (key : List ℕ) → at_name key left ≡ None → next_on_key index key ≡ first_on_key bucket key
   pub uploads : KeepsUploads start index
   pub table : HasTable index bucket
 
-pub all_keys_left : (start : IndexRecord) (bucket : BucketRecord) → HasNoKeys start → HasTable start bucket → AreKeysLeft start start bucket bucket.stacks
+pub all_keys_left : (start : ActionsRecord) (bucket : BucketRecord) → HasNoKeys start → HasTable start bucket → AreKeysLeft start start bucket bucket.stacks
 all_keys_left start bucket none table = record {
   table = table;
   keys = λ key absent. none key ∙ sym (no_stack bucket key absent);
   uploads = λ number. refl;
 }
 
-pub one_key_less : (start old new : IndexRecord) (bucket : BucketRecord) (key : List ℕ) (stack : StackRecord) (left : List (List ℕ × StackRecord))
+pub one_key_less : (start old new : ActionsRecord) (bucket : BucketRecord) (key : List ℕ) (stack : StackRecord) (left : List (List ℕ × StackRecord))
     → AreKeysLeft start old bucket ((key, stack) ∷ left) → SetsNextOnKey old new key (first_on_key bucket key) → AreKeysLeft start new bucket left
 one_key_less start old new bucket key stack left are sets = record {
   table = subst (λ t. IsTable t (rules_of bucket.rules)) (sym sets.table) are.table;
@@ -73,25 +73,25 @@ one_key_less start old new bucket key stack left are sets = record {
   uploads = λ number. sets.uploads number ∙ are.uploads number;
 }
 
-pub no_keys_left : (start index : IndexRecord) (bucket : BucketRecord) → AreKeysLeft start index bucket [] → StandsOnKeys index bucket
+pub no_keys_left : (start index : ActionsRecord) (bucket : BucketRecord) → AreKeysLeft start index bucket [] → StandsOnKeys index bucket
 no_keys_left start index bucket are = λ key. are.keys key refl
 
 -- ---- uploads
 
 -- on each upload but those that are left comes next what comes first
-pub record AreUploadsLeft (start index : IndexRecord) (bucket : BucketRecord) (left : List (ℕ × UploadRecord)) : Type 0 where
+pub record AreUploadsLeft (start index : ActionsRecord) (bucket : BucketRecord) (left : List (ℕ × UploadRecord)) : Type 0 where
   pub uploads : (number : ℕ) → at_number number left ≡ None → next_on_upload index number ≡ first_on_upload bucket number
   pub keys : KeepsKeys start index
   pub table : HasTable index bucket
 
-pub all_uploads_left : (start : IndexRecord) (bucket : BucketRecord) → HasNoUploads start → HasTable start bucket → AreUploadsLeft start start bucket bucket.uploads
+pub all_uploads_left : (start : ActionsRecord) (bucket : BucketRecord) → HasNoUploads start → HasTable start bucket → AreUploadsLeft start start bucket bucket.uploads
 all_uploads_left start bucket none table = record {
   table = table;
   uploads = λ number absent. none number ∙ sym (no_upload bucket number absent);
   keys = λ key. refl;
 }
 
-pub one_upload_less : (start old new : IndexRecord) (bucket : BucketRecord) (number : ℕ) (upload : UploadRecord) (left : List (ℕ × UploadRecord))
+pub one_upload_less : (start old new : ActionsRecord) (bucket : BucketRecord) (number : ℕ) (upload : UploadRecord) (left : List (ℕ × UploadRecord))
     → AreUploadsLeft start old bucket ((number, upload) ∷ left) → SetsNextOnUpload old new number (first_on_upload bucket number)
     → AreUploadsLeft start new bucket left
 one_upload_less start old new bucket number upload left are sets = record {
@@ -104,13 +104,13 @@ one_upload_less start old new bucket number upload left are sets = record {
   keys = λ key. sets.keys key ∙ are.keys key;
 }
 
-pub no_uploads_left : (start index : IndexRecord) (bucket : BucketRecord) → AreUploadsLeft start index bucket [] → StandsOnUploads index bucket
+pub no_uploads_left : (start index : ActionsRecord) (bucket : BucketRecord) → AreUploadsLeft start index bucket [] → StandsOnUploads index bucket
 no_uploads_left start index bucket are = λ number. are.uploads number refl
 
 -- ---- both
 
-pub built : (keys both : IndexRecord) (bucket : BucketRecord) → StandsOnKeys keys bucket → StandsOnUploads both bucket → KeepsKeys keys both → HasTable both bucket → StandsFor both bucket
+pub built : (keys both : ActionsRecord) (bucket : BucketRecord) → StandsOnKeys keys bucket → StandsOnUploads both bucket → KeepsKeys keys both → HasTable both bucket → ActionsStand both bucket
 built keys both bucket on_keys on_uploads kept table = record { table = table; keys = λ key. kept key ∙ on_keys key; uploads = on_uploads }
 
-pub no_uploads_yet : (old new : IndexRecord) → HasNoUploads old → KeepsUploads old new → HasNoUploads new
+pub no_uploads_yet : (old new : ActionsRecord) → HasNoUploads old → KeepsUploads old new → HasNoUploads new
 no_uploads_yet old new none kept = λ number. kept number ∙ none number

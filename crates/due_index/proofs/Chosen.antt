@@ -28,7 +28,7 @@ use Rattle.due_core.proofs.Precedence.{precedence_total, first_candidate}
 use Rattle.due_core.proofs.Pass.{has_come}
 use Rattle.due_index.specs.Firsts.{asked_of_key, asked_of_upload, first_on_key, first_on_upload}
 use Rattle.due_index.specs.Queue.{slot_at, IsHead, IsFirstAction}
-use Rattle.due_index.specs.Index.{IndexRecord, slot_of, IsOwned, IsTied, StandsFor, IsBucket, due_by}
+use Rattle.due_index.specs.Actions.{ActionsRecord, slot_of, IsOwned, IsTied, ActionsStand, IsBucket, due_by}
 use Rattle.due_index.specs.Search.{Among}
 use Rattle.due_index.proofs.Among.{among_append, among_front, among_back, among_filter, filtered, among_flat_map, flat_mapped, among_at, place_of}
 use Rattle.due_index.proofs.Ties.{IsOnKey, IsOnUpload, on_key, on_upload, tied_on_key, tied_on_upload, neither_before, tied_key, tied_age, tied_kind}
@@ -142,7 +142,7 @@ some_slot : (o : Option â„•) (slots : List (Option Candidate)) (c : Candidate) â
 some_slot None slots c is = absurd cc
 some_slot (Some slot) slots c is = (slot, refl, is)
 
-module _ (index : IndexRecord) (bucket : BucketRecord) (whole : IsBucket bucket) (tied : IsTied index) (stands : StandsFor index bucket) where
+module _ (index : ActionsRecord) (bucket : BucketRecord) (whole : IsBucket bucket) (tied : IsTied index) (stands : ActionsStand index bucket) where
   -- a candidate that stands in a slot and that comes first of some list in which only itself ties with it
   pub record IsLed (r : Candidate) : Type 0 where
     pub lead : Candidate

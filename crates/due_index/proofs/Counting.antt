@@ -20,7 +20,7 @@ use Rattle.stacks.specs.Stacks.{StackRecord}
 use Rattle.uploads.specs.Uploads.{UploadRecord}
 use Rattle.due_core.specs.Buckets.{BucketRecord}
 use Rattle.due_index.specs.Firsts.{first_on_key, first_on_upload, entry_count}
-use Rattle.due_index.specs.Index.{IndexRecord, slot_of, IsTied, IsBucket, StandsFor}
+use Rattle.due_index.specs.Actions.{ActionsRecord, slot_of, IsTied, IsBucket, ActionsStand}
 use Rattle.due_index.proofs.Chosen.{same_name, equal_is}
 use Rattle.due_index.proofs.Building.{no_stack, no_upload}
 
@@ -54,7 +54,7 @@ module _ {K X Y : Type 0} (cmp : K → K → Ordering) (total : IsTotalOrder cmp
 
 -- ---- the index has the keys and uploads on which there is an action
 
-module _ (index : IndexRecord) (bucket : BucketRecord) (tied : IsTied index) (stands : StandsFor index bucket) where
+module _ (index : ActionsRecord) (bucket : BucketRecord) (tied : IsTied index) (stands : ActionsStand index bucket) where
   key_held : (key : List ℕ) (o : Option ℕ) → at_name key index.keys ≡ o → is_some o ≡ is_some (slot_of o index.slots)
   key_held key None is = refl
   key_held key (Some slot) is = ap is_some (sym (tied.keys key slot is).there)

@@ -69,11 +69,11 @@ placed_there n (suc i) (w ∷ ws) v newer older less is at sum = inr (placed_the
 
 -- ---- in which order they ceased
 
-both : (a b : Bool) → (a && b) ≡ true → (a ≡ true) × (b ≡ true)
+pub both : (a b : Bool) → (a && b) ≡ true → (a ≡ true) × (b ≡ true)
 both true b is = (refl, is)
 both false b is = absurd cc
 
-is_le : (a b : ℕ) → nat_le a b ≡ true → a ≤ b
+pub is_le : (a b : ℕ) → nat_le a b ≡ true → a ≤ b
 is_le a b is = grind (arith, nat_tests)
 
 until_last : (last : ℕ) (versions : List Version) → cease_until last versions ≡ true → (k : ℕ) (d : Version) → k < length versions → (get_or versions k d).ceased ≤ last
@@ -92,7 +92,7 @@ until_order last (v ∷ vs) is zero (suc k) d le less = until_last v.ceased vs (
 until_order last (v ∷ vs) is (suc j) zero d le less = absurd (omega arith)
 until_order last (v ∷ vs) is (suc j) (suc k) d le less = until_order v.ceased vs (both (nat_le v.ceased last) (cease_until v.ceased vs) is).1 j k d (omega arith) (omega arith)
 
-noncurrent_order : (changed : ℕ) (versions : List Version) → cease_in_order changed versions ≡ true → (j k : ℕ) (d : Version) → 1 ≤ j → j ≤ k → k < length versions
+pub noncurrent_order : (changed : ℕ) (versions : List Version) → cease_in_order changed versions ≡ true → (j k : ℕ) (d : Version) → 1 ≤ j → j ≤ k → k < length versions
     → (get_or versions k d).ceased ≤ (get_or versions j d).ceased
 noncurrent_order changed [] is j k d one le less = absurd (omega arith)
 noncurrent_order changed (v ∷ vs) is zero k d one le less = absurd (omega arith)
@@ -228,6 +228,17 @@ module _ (setting : Setting) (key : List ℕ) (stack : StackRecord) (numbered : 
   pub none_newer : (i : ℕ) (new : Option Candidate) → 1 ≤ i → keeps_newer step.newer (i - 1) ≡ false → IsFirstOf old (From (i + 1)) new → IsFirstOf old All new
   none_newer i new one over first = also_looked old new (From (i + 1)) All first (λ c h. h.asked)
       (λ c h. first.none_before c (record { asked = h; from = more_newer (unwrap_or step.newer 0) h.placed.newer i h.noncurrent one h.kept over }))
+
+  -- versions that do not take it can be left out
+  pub none_between : (left i : ℕ) (new : Option Candidate) → left ≤ i
+      → ((p : Placed) → IsPlaced 0 stack.versions p → left ≤ p.newer → p.newer < i → takes_step setting.mode numbered.1.filter step.kind key p.version ≡ true → ⊥)
+      → IsFirstOf old (From i) new → IsFirstOf old (From left) new
+  none_between left i new le none first = also_looked old new (From i) (From left) first (λ c h. record { asked = h.asked; from = let from = h.from in omega arith })
+      (λ c h. elim (below_or h.asked.placed.newer i) [
+        | inl from ↦ first.none_before c (record { asked = h.asked; from = from })
+        | inr newer ↦ absurd (none h.asked.placed (is_placed 0 stack.versions h.asked.placed h.asked.there) h.from (omega arith)
+            (in_step setting key stack numbered step h.asked.placed c h.asked.asked).takes)
+      ])
 
   module _ (i older : ℕ) (v : Version) (one : 1 ≤ i) (less : i < length stack.versions) (here : v ≡ get_or stack.versions i v) (sum : older + i + 1 ≡ length stack.versions)
       (kept : keeps_newer step.newer (i - 1) ≡ true) where

@@ -16,7 +16,7 @@ use Rattle.due_core.specs.declared.action.Candidate.{Candidate}
 use Rattle.due_index.specs.Firsts.{first_on_key}
 use Rattle.due_index.specs.Queue.{slot_at, IsPut}
 use Rattle.due_index.specs.Table.{IsTable, rules_of}
-use Rattle.due_index.specs.Index.{IndexRecord, next_on_key, slot_of, IsOwned, IsTied, IsOfKey, Stands, KeepsNext, SetsNextOnKey, StandsFor, StandsButKey}
+use Rattle.due_index.specs.Actions.{ActionsRecord, next_on_key, slot_of, IsOwned, IsTied, IsOfKey, Stands, KeepsNext, SetsNextOnKey, ActionsStand, ActionsStandButKey}
 use Rattle.due_index.proofs.Chosen.{same_name}
 use Rattle.due_index.proofs.Tournaments.{decide}
 
@@ -40,7 +40,7 @@ not_at key k apart = not_at_by key k (bytes_cmp key k) refl apart
 
 -- ---- slots of other keys and uploads are other slots
 
-module _ (index : IndexRecord) (tied : IsTied index) where
+module _ (index : ActionsRecord) (tied : IsTied index) where
   one_candidate : (slot : ℕ) (c d : Candidate) → slot_at slot index.slots ≡ Some c → slot_at slot index.slots ≡ Some d → c ≡ d
   one_candidate slot c d h k = let both : Some c ≡ Some d = sym h ∙ k in cc
 
@@ -59,9 +59,9 @@ module _ (index : IndexRecord) (tied : IsTied index) where
 
 -- ---- the slot of a key is written
 
-module _ (index : IndexRecord) (tied : IsTied index) (key : List ℕ) (slot : ℕ) (at : at_name key index.keys ≡ Some slot)
+module _ (index : ActionsRecord) (tied : IsTied index) (key : List ℕ) (slot : ℕ) (at : at_name key index.keys ≡ Some slot)
     (slots : List (Option Candidate)) (c : Candidate) (of_key : IsOfKey key c) (put : IsPut index.slots slots slot (Some c)) where
-  abbrev written : IndexRecord
+  abbrev written : ActionsRecord
   written = record { keys = index.keys; uploads = index.uploads; table = index.table; slots = slots }
 
   other_key_by : (k : List ℕ) (o : Option ℕ) → at_name k index.keys ≡ o → (k ≡ key → ⊥) → slot_of o slots ≡ slot_of o index.slots
@@ -113,10 +113,10 @@ module _ (index : IndexRecord) (tied : IsTied index) (key : List ℕ) (slot : �
 
 -- ---- the slot of a key is emptied
 
-module _ (index : IndexRecord) (tied : IsTied index) (key : List ℕ) (slot : ℕ) (at : at_name key index.keys ≡ Some slot)
+module _ (index : ActionsRecord) (tied : IsTied index) (key : List ℕ) (slot : ℕ) (at : at_name key index.keys ≡ Some slot)
     (slots : List (Option Candidate)) (put : IsPut index.slots slots slot None) (keys : List (List ℕ × ℕ))
     (gone : at_name key keys ≡ None) (kept : (k : List ℕ) → (k ≡ key → ⊥) → at_name k keys ≡ at_name k index.keys) where
-  abbrev emptied : IndexRecord
+  abbrev emptied : ActionsRecord
   emptied = record { keys = keys; uploads = index.uploads; table = index.table; slots = slots }
 
   left_key_by : (k : List ℕ) (o : Option ℕ) → at_name k index.keys ≡ o → (k ≡ key → ⊥) → slot_of o slots ≡ slot_of o index.slots
@@ -162,11 +162,11 @@ module _ (index : IndexRecord) (tied : IsTied index) (key : List ℕ) (slot : �
 
 -- ---- an empty slot is taken up for a key
 
-module _ (index : IndexRecord) (tied : IsTied index) (key : List ℕ) (absent : at_name key index.keys ≡ None) (slot : ℕ)
+module _ (index : ActionsRecord) (tied : IsTied index) (key : List ℕ) (absent : at_name key index.keys ≡ None) (slot : ℕ)
     (empty : slot_at slot index.slots ≡ None) (slots : List (Option Candidate)) (c : Candidate) (of_key : IsOfKey key c)
     (put : IsPut index.slots slots slot (Some c)) (keys : List (List ℕ × ℕ))
     (at : at_name key keys ≡ Some slot) (kept : (k : List ℕ) → (k ≡ key → ⊥) → at_name k keys ≡ at_name k index.keys) where
-  abbrev taken : IndexRecord
+  abbrev taken : ActionsRecord
   taken = record { keys = keys; uploads = index.uploads; table = index.table; slots = slots }
 
   not_empty : (s : ℕ) (P : Candidate → Type 0) → Stands index s P → s ≡ slot → ⊥
@@ -223,8 +223,8 @@ module _ (index : IndexRecord) (tied : IsTied index) (key : List ℕ) (absent : 
 
 -- ---- so the index is right for the bucket again
 
-pub renewed : (old new : IndexRecord) (bucket : BucketRecord) (key : List ℕ) → StandsButKey old bucket key
-    → SetsNextOnKey old new key (first_on_key bucket key) → StandsFor new bucket
+pub renewed : (old new : ActionsRecord) (bucket : BucketRecord) (key : List ℕ) → ActionsStandButKey old bucket key
+    → SetsNextOnKey old new key (first_on_key bucket key) → ActionsStand new bucket
 renewed old new bucket key but sets = record {
   table = subst (λ t. IsTable t (rules_of bucket.rules)) (sym sets.table) but.table;
   keys = λ k. elim (names k key) [
@@ -240,7 +240,7 @@ pub version_of : (key : List ℕ) (place : Place) → IsOnVersion place → IsOf
 version_of key place on = record { own = refl; version = on.version; target = on.target }
 
 -- the key's slot got the place's action
-module _ (index : IndexRecord) (tied : IsTied index) (key : List ℕ) (slot : ℕ) (at : at_name key index.keys ≡ Some slot) (place : Place) (on : IsOnVersion place)
+module _ (index : ActionsRecord) (tied : IsTied index) (key : List ℕ) (slot : ℕ) (at : at_name key index.keys ≡ Some slot) (place : Place) (on : IsOnVersion place)
     (slots : List (Option Candidate))
     (put : (held : Candidate) → slot_at slot index.slots ≡ Some held → IsPut index.slots slots slot (Some (candidate_of held.action.key place))) where
   put_own : IsPut index.slots slots slot (Some (candidate_of key place))
@@ -254,21 +254,21 @@ module _ (index : IndexRecord) (tied : IsTied index) (key : List ℕ) (slot : �
   pub tied_replaced : IsTied (record { keys = index.keys; uploads = index.uploads; table = index.table; slots = slots })
   tied_replaced = tied_written index tied key slot at slots (candidate_of key place) (version_of key place on) put_own
 
-pub slot_there : (index : IndexRecord) (tied : IsTied index) (key : List ℕ) (slot : ℕ) → at_name key index.keys ≡ Some slot → IsSome (slot_at slot index.slots)
+pub slot_there : (index : ActionsRecord) (tied : IsTied index) (key : List ℕ) (slot : ℕ) → at_name key index.keys ≡ Some slot → IsSome (slot_at slot index.slots)
 slot_there index tied key slot at = let h = tied.keys key slot at in subst IsSome (sym h.there) refl
 
 -- ---- out of memory
 
 -- what was put into an empty slot is taken out again
-pub back_again : (index : IndexRecord) (more less : List (Option Candidate)) (slot : ℕ) (c : Candidate) → slot_at slot index.slots ≡ None
+pub back_again : (index : ActionsRecord) (more less : List (Option Candidate)) (slot : ℕ) (c : Candidate) → slot_at slot index.slots ≡ None
     → IsPut index.slots more slot (Some c) → IsPut more less slot None → (k : ℕ) → slot_at k less ≡ slot_at k index.slots
 back_again index more less slot c empty put out k = elim (decide k slot) [
   | inl same ↦ ap (λ n. slot_at n less) same ∙ out.here ∙ sym empty ∙ ap (λ n. slot_at n index.slots) (sym same)
   | inr apart ↦ out.others k apart ∙ put.others k apart
 ]
 
-module _ (index : IndexRecord) (tied : IsTied index) (slots : List (Option Candidate)) (same : (k : ℕ) → slot_at k slots ≡ slot_at k index.slots) where
-  abbrev again : IndexRecord
+module _ (index : ActionsRecord) (tied : IsTied index) (slots : List (Option Candidate)) (same : (k : ℕ) → slot_at k slots ≡ slot_at k index.slots) where
+  abbrev again : ActionsRecord
   again = record { keys = index.keys; uploads = index.uploads; table = index.table; slots = slots }
 
   same_slot : (o : Option ℕ) → slot_of o slots ≡ slot_of o index.slots
@@ -292,5 +292,5 @@ module _ (index : IndexRecord) (tied : IsTied index) (slots : List (Option Candi
     owned = λ s d is. owned_again s d d.action.target (tied.owned s d (sym (same s) ∙ is));
   }
 
-pub keeps_itself : (index : IndexRecord) → KeepsNext index index
+pub keeps_itself : (index : ActionsRecord) → KeepsNext index index
 keeps_itself index = record { table = refl; keys = λ key. refl; uploads = λ number. refl }

@@ -13,7 +13,7 @@ use Rattle.due_core.specs.declared.action.Candidate.{Candidate}
 use Rattle.due_index.specs.Firsts.{first_on_upload}
 use Rattle.due_index.specs.Queue.{slot_at, IsPut}
 use Rattle.due_index.specs.Table.{IsTable, rules_of}
-use Rattle.due_index.specs.Index.{IndexRecord, next_on_upload, slot_of, IsOwned, IsTied, IsOfKey, IsOnUpload, Stands, SetsNextOnUpload, StandsFor, StandsButUpload}
+use Rattle.due_index.specs.Actions.{ActionsRecord, next_on_upload, slot_of, IsOwned, IsTied, IsOfKey, IsOnUpload, Stands, SetsNextOnUpload, ActionsStand, ActionsStandButUpload}
 use Rattle.due_index.proofs.Tournaments.{decide}
 use Rattle.due_index.proofs.Renewing.{apart_sides}
 
@@ -27,7 +27,7 @@ not_at_number number n apart = not_at_by number n (nat_cmp number n) refl apart
 
 -- ---- slots of other uploads are other slots
 
-module _ (index : IndexRecord) (tied : IsTied index) where
+module _ (index : ActionsRecord) (tied : IsTied index) where
   one_candidate : (slot : ℕ) (c d : Candidate) → slot_at slot index.slots ≡ Some c → slot_at slot index.slots ≡ Some d → c ≡ d
   one_candidate slot c d h k = let both : Some c ≡ Some d = sym h ∙ k in cc
 
@@ -40,9 +40,9 @@ module _ (index : IndexRecord) (tied : IsTied index) where
 
 -- ---- the slot of an upload is written
 
-module _ (index : IndexRecord) (tied : IsTied index) (number slot : ℕ) (at : at_number number index.uploads ≡ Some slot)
+module _ (index : ActionsRecord) (tied : IsTied index) (number slot : ℕ) (at : at_number number index.uploads ≡ Some slot)
     (slots : List (Option Candidate)) (c : Candidate) (on : IsOnUpload number c) (put : IsPut index.slots slots slot (Some c)) where
-  abbrev written : IndexRecord
+  abbrev written : ActionsRecord
   written = record { keys = index.keys; uploads = index.uploads; table = index.table; slots = slots }
 
   other_key_by : (k : List ℕ) (o : Option ℕ) → at_name k index.keys ≡ o → slot_of o slots ≡ slot_of o index.slots
@@ -93,10 +93,10 @@ module _ (index : IndexRecord) (tied : IsTied index) (number slot : ℕ) (at : a
 
 -- ---- the slot of an upload is emptied
 
-module _ (index : IndexRecord) (tied : IsTied index) (number slot : ℕ) (at : at_number number index.uploads ≡ Some slot)
+module _ (index : ActionsRecord) (tied : IsTied index) (number slot : ℕ) (at : at_number number index.uploads ≡ Some slot)
     (slots : List (Option Candidate)) (put : IsPut index.slots slots slot None) (uploads : List (ℕ × ℕ))
     (gone : at_number number uploads ≡ None) (kept : (n : ℕ) → (n ≡ number → ⊥) → at_number n uploads ≡ at_number n index.uploads) where
-  abbrev emptied : IndexRecord
+  abbrev emptied : ActionsRecord
   emptied = record { keys = index.keys; uploads = uploads; table = index.table; slots = slots }
 
   left_key_by : (k : List ℕ) (o : Option ℕ) → at_name k index.keys ≡ o → slot_of o slots ≡ slot_of o index.slots
@@ -142,11 +142,11 @@ module _ (index : IndexRecord) (tied : IsTied index) (number slot : ℕ) (at : a
 
 -- ---- an empty slot is taken up for an upload
 
-module _ (index : IndexRecord) (tied : IsTied index) (number : ℕ) (absent : at_number number index.uploads ≡ None) (slot : ℕ)
+module _ (index : ActionsRecord) (tied : IsTied index) (number : ℕ) (absent : at_number number index.uploads ≡ None) (slot : ℕ)
     (empty : slot_at slot index.slots ≡ None) (slots : List (Option Candidate)) (c : Candidate) (on : IsOnUpload number c)
     (put : IsPut index.slots slots slot (Some c)) (uploads : List (ℕ × ℕ))
     (at : at_number number uploads ≡ Some slot) (kept : (n : ℕ) → (n ≡ number → ⊥) → at_number n uploads ≡ at_number n index.uploads) where
-  abbrev taken : IndexRecord
+  abbrev taken : ActionsRecord
   taken = record { keys = index.keys; uploads = uploads; table = index.table; slots = slots }
 
   not_empty : (s : ℕ) (P : Candidate → Type 0) → Stands index s P → s ≡ slot → ⊥
@@ -202,8 +202,8 @@ module _ (index : IndexRecord) (tied : IsTied index) (number : ℕ) (absent : at
 
 -- ---- so the index is right for the bucket again
 
-pub renewed_upload : (old new : IndexRecord) (bucket : BucketRecord) (number : ℕ) → StandsButUpload old bucket number
-    → SetsNextOnUpload old new number (first_on_upload bucket number) → StandsFor new bucket
+pub renewed_upload : (old new : ActionsRecord) (bucket : BucketRecord) (number : ℕ) → ActionsStandButUpload old bucket number
+    → SetsNextOnUpload old new number (first_on_upload bucket number) → ActionsStand new bucket
 renewed_upload old new bucket number but sets = record {
   table = subst (λ t. IsTable t (rules_of bucket.rules)) (sym sets.table) but.table;
   keys = λ key. sets.keys key ∙ but.keys key;
@@ -213,8 +213,8 @@ renewed_upload old new bucket number but sets = record {
   ];
 }
 
-pub upload_there : (index : IndexRecord) (tied : IsTied index) (number slot : ℕ) → at_number number index.uploads ≡ Some slot → IsSome (slot_at slot index.slots)
+pub upload_there : (index : ActionsRecord) (tied : IsTied index) (number slot : ℕ) → at_number number index.uploads ≡ Some slot → IsSome (slot_at slot index.slots)
 upload_there index tied number slot at = let h = tied.uploads number slot at in subst IsSome (sym h.there) refl
 
-pub set_nothing : (index : IndexRecord) (number : ℕ) → at_number number index.uploads ≡ None → SetsNextOnUpload index index number None
+pub set_nothing : (index : ActionsRecord) (number : ℕ) → at_number number index.uploads ≡ None → SetsNextOnUpload index index number None
 set_nothing index number absent = record { here = ap (λ o. slot_of o index.slots) absent; table = refl; others = λ n apart. refl; keys = λ k. refl }

@@ -15,7 +15,7 @@ use Rattle.due_core.specs.declared.action.Candidate.{Candidate}
 use Rattle.due_core.specs.declared.action.Target.TheVariants as target
 use Rattle.due_core.proofs.Loops.{picked_twice, same_flat}
 use Rattle.due_index.specs.Places.{candidate_of, IsOnVersion}
-use Rattle.due_index.specs.Index.{IsOnUpload}
+use Rattle.due_index.specs.Actions.{IsOnUpload}
 use Rattle.due_index.specs.Search.{Aim, on_key, with_one, with_each, with_each_due, aimed, setting_of, key_candidates, number_candidates}
 use Rattle.due_index.specs.declared.place.Place.{Place}
 use Rattle.due_index.proofs.Chosen.{least_first}

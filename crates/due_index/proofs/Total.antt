@@ -16,7 +16,7 @@ use Rattle.due_core.specs.declared.action.Action.{Action}
 use Rattle.due_core.specs.declared.action.Candidate.{Candidate}
 use Rattle.due_core.proofs.Pass.{has_come}
 use Rattle.due_core.proofs.Precedence.{first_candidate}
-use Rattle.due_index.specs.Index.{IsBucket, IsTotalOn, IsLeastAction}
+use Rattle.due_index.specs.Actions.{IsBucket, IsTotalOn, IsLeastAction}
 use Rattle.due_index.specs.Search.{Among}
 use Rattle.due_index.proofs.Among.{among_append, among_filter, among_flat_map, among_at}
 use Rattle.due_index.proofs.Chosen.{same_name, there_found}

@@ -1,149 +1,53 @@
--- What an index of the next actions means.
-use Rattle.std.specs.Prelude.{◌≡◌, ℕ, List, Contains, false, Option, Some, None, option_map, nat_le, if◌then◌else◌}
-use Rattle.office_base.specs.Maps.{bytes_cmp, at_name, at_number, Rises}
-use Rattle.std.specs.Ordering.{nat_cmp}
+-- What an index of the next actions means: its next actions are those that the rules ask for, and its blocks are right.
+use Rattle.std.specs.Prelude.{◌≡◌, ◌⊎◌, ℕ, List, [], All, Contains, Option, Some, unwrap_or}
+use Rattle.office_base.specs.Maps.{at_name}
 use Rattle.office_base.specs.declared.version_id.VersionId.{VersionId}
+use Rattle.stacks.specs.Stacks.{StackRecord}
 use Rattle.due_core.specs.Buckets.{BucketRecord}
-use Rattle.due_core.specs.Candidates.{candidates}
-use Rattle.due_core.specs.Choice.{comes_before, IsLeast}
-use Rattle.due_core.specs.declared.action.Action.{Action}
-use Rattle.due_core.specs.declared.action.Target.{Target}
-use Rattle.due_core.specs.declared.action.Target.TheVariants.{Version, Upload}
-use Rattle.due_core.specs.declared.action.Candidate.{Candidate}
-use Rattle.due_index.specs.Firsts.{first_on_key, first_on_upload}
-use Rattle.due_index.specs.Queue.{slot_at}
-use Rattle.due_index.specs.Table.{TableRecord, IsTable, rules_of}
+use Rattle.due_index.specs.Actions.{ActionsRecord, ActionsStand, ActionsStandButKey, ActionsStandButUpload}
+use Rattle.due_index.specs.Blocks.{BlockRecord, AreRightUnder, AreRightUnderBut, but_first, noncurrent_of}
 
--- the content of the slot that a map has, if it has one
-abbrev pub slot_of : Option ℕ → List (Option Candidate) → Option Candidate
-slot_of None slots = None
-slot_of (Some slot) slots = slot_at slot slots
-
--- an index as contracts see it: the slot of each key and each upload that has an action, the enabled rules by their
--- prefix, and the content of each slot
+-- an index as contracts see it: the next actions, and the blocks of keys that have many versions
 pub record IndexRecord : Type 0 where
-  pub keys : List (List ℕ × ℕ)
-  pub uploads : List (ℕ × ℕ)
-  pub table : TableRecord
-  pub slots : List (Option Candidate)
+  pub actions : ActionsRecord
+  pub blocks : List (List ℕ × List BlockRecord)
 
--- the index's next action on a key
-abbrev pub next_on_key : IndexRecord → List ℕ → Option Candidate
-next_on_key index key = slot_of (at_name key index.keys) index.slots
+-- the blocks of a key; none if the index has none for it
+abbrev pub blocks_of : List ℕ → List (List ℕ × List BlockRecord) → List BlockRecord
+blocks_of key entries = unwrap_or (at_name key entries) []
 
--- the index's next action on an upload
-abbrev pub next_on_upload : IndexRecord → ℕ → Option Candidate
-next_on_upload index number = slot_of (at_number number index.uploads) index.slots
+-- the blocks of a key are right for the bucket
+abbrev pub HasBlocks : IndexRecord → BucketRecord → List ℕ → Type 0
+HasBlocks index bucket key =
+    AreRightUnder bucket.rules key (blocks_of key index.blocks) (at_name key bucket.stacks)
 
--- the slot of an action is that of its key if it is on a version, and that of its upload if it is on an upload
-abbrev pub IsOwned : IndexRecord → ℕ → Candidate → Target → Type 0
-IsOwned index slot candidate (Version id) = at_name candidate.action.key index.keys ≡ Some slot
-IsOwned index slot candidate (Upload number) = at_number number index.uploads ≡ Some slot
-
--- the action is on a version of this key
-pub record IsOfKey (key : List ℕ) (candidate : Candidate) : Type 0 where
-  pub own : candidate.action.key ≡ key
-  pub version : VersionId
-  pub target : candidate.action.target ≡ Version version
-
--- the slot has a candidate, and P holds for it
-pub record Stands (index : IndexRecord) (slot : ℕ) (P : Candidate → Type 0) : Type 0 where
-  pub candidate : Candidate
-  pub there : slot_at slot index.slots ≡ Some candidate
-  pub is : P candidate
-
--- each slot of a key or upload has an action on it, and each action is in the slot of its key or upload
-pub record IsTied (index : IndexRecord) : Type 0 where
-  pub keys : (key : List ℕ) (slot : ℕ) → at_name key index.keys ≡ Some slot → Stands index slot (IsOfKey key)
-  pub uploads : (number slot : ℕ) → at_number number index.uploads ≡ Some slot
-      → Stands index slot (λ candidate. candidate.action.target ≡ Upload number)
-  pub owned : (slot : ℕ) (candidate : Candidate) → slot_at slot index.slots ≡ Some candidate
-      → IsOwned index slot candidate candidate.action.target
-
--- the index is right for a bucket: its table is that of the bucket's rules, and its next action on each key and each
--- upload is the first one that the rules ask for
+-- the index is right for a bucket: its next actions are the first ones that the rules ask for, and its blocks are right
 pub record StandsFor (index : IndexRecord) (bucket : BucketRecord) : Type 0 where
-  pub table : IsTable index.table (rules_of bucket.rules)
-  pub keys : (key : List ℕ) → next_on_key index key ≡ first_on_key bucket key
-  pub uploads : (number : ℕ) → next_on_upload index number ≡ first_on_upload bucket number
+  pub actions : ActionsStand index.actions bucket
+  pub blocks : (key : List ℕ) → HasBlocks index bucket key
 
--- the keys of the stacks and the numbers of the uploads are in ascending order, as in every bucket
-pub record IsBucket (bucket : BucketRecord) : Type 0 where
-  pub stacks : Rises bytes_cmp bucket.stacks
-  pub uploads : Rises nat_cmp bucket.uploads
-
--- the first of all actions, if it has come at the moment
-abbrev pub due_by : ℕ → Option Action → Option Action
-due_by t None = None
-due_by t (Some first) = if nat_le first.since t then Some first else None
-
--- of these candidates, any two of which neither comes before the other are equal
-abbrev pub IsTotalOn : List Candidate → Type 0
-IsTotalOn asked = (c d : Candidate) → Contains asked c → Contains asked d
-    → comes_before c d ≡ false → comes_before d c ≡ false → c ≡ d
-
--- action is that of a candidate at this moment, and no candidate comes before that one; None: there is no candidate
-abbrev pub IsLeastAction : BucketRecord → ℕ → Option Action → Type 0
-IsLeastAction bucket t action = (first : Option Candidate) × IsLeast comes_before (candidates bucket t) first
-    × (option_map (λ candidate. candidate.action) first ≡ action)
-
--- the table and the next action on each key and each upload are unchanged
-pub record KeepsNext (old new : IndexRecord) : Type 0 where
-  pub table : new.table ≡ old.table
-  pub keys : (key : List ℕ) → next_on_key new key ≡ next_on_key old key
-  pub uploads : (number : ℕ) → next_on_upload new number ≡ next_on_upload old number
-
--- the next action on this key is this one; on all other keys and all uploads it is unchanged
-pub record SetsNextOnKey (old new : IndexRecord) (key : List ℕ) (next : Option Candidate) : Type 0 where
-  pub here : next_on_key new key ≡ next
-  pub table : new.table ≡ old.table
-  pub others : (k : List ℕ) → (k ≡ key → ⊥) → next_on_key new k ≡ next_on_key old k
-  pub uploads : (number : ℕ) → next_on_upload new number ≡ next_on_upload old number
-
--- the index is right for a bucket, except for one key
-pub record StandsButKey (index : IndexRecord) (bucket : BucketRecord) (key : List ℕ) : Type 0 where
-  pub table : IsTable index.table (rules_of bucket.rules)
-  pub keys : (k : List ℕ) → (k ≡ key → ⊥) → next_on_key index k ≡ first_on_key bucket k
-  pub uploads : (number : ℕ) → next_on_upload index number ≡ first_on_upload bucket number
-
--- the next action on this upload is this one; on all other uploads and all keys it is unchanged
-pub record SetsNextOnUpload (old new : IndexRecord) (number : ℕ) (next : Option Candidate) : Type 0 where
-  pub here : next_on_upload new number ≡ next
-  pub table : new.table ≡ old.table
-  pub others : (n : ℕ) → (n ≡ number → ⊥) → next_on_upload new n ≡ next_on_upload old n
-  pub keys : (key : List ℕ) → next_on_key new key ≡ next_on_key old key
+-- the index is right for a bucket, except for one key. Of this key's noncurrent versions, the blocks are right for all
+-- but the newest one and the one with this id.
+pub record StandsButKey (index : IndexRecord) (bucket : BucketRecord) (key : List ℕ) (touched : Option VersionId)
+    : Type 0 where
+  pub actions : ActionsStandButKey index.actions bucket key
+  pub others : (k : List ℕ) → (k ≡ key → ⊥) → HasBlocks index bucket k
+  pub blocks : AreRightUnderBut touched bucket.rules key (blocks_of key index.blocks) (at_name key bucket.stacks)
 
 -- the index is right for a bucket, except for one upload
 pub record StandsButUpload (index : IndexRecord) (bucket : BucketRecord) (number : ℕ) : Type 0 where
-  pub table : IsTable index.table (rules_of bucket.rules)
-  pub keys : (key : List ℕ) → next_on_key index key ≡ first_on_key bucket key
-  pub uploads : (n : ℕ) → (n ≡ number → ⊥) → next_on_upload index n ≡ first_on_upload bucket n
+  pub actions : ActionsStandButUpload index.actions bucket number
+  pub blocks : (key : List ℕ) → HasBlocks index bucket key
 
--- the action is on this upload
-abbrev pub IsOnUpload : ℕ → Candidate → Type 0
-IsOnUpload number candidate = candidate.action.target ≡ Upload number
+-- how the noncurrent versions of a key follow from those before: each one but the newest, and but the one with this id,
+-- was noncurrent before, and is unchanged
+abbrev pub Follows : Option VersionId → Option StackRecord → Option StackRecord → Type 0
+Follows touched before after =
+    All (λ version. (touched ≡ Some version.id → ⊥) → Contains (noncurrent_of before) version)
+    (but_first (noncurrent_of after))
 
--- the index has no next action on any key, or on any upload
-abbrev pub HasNoKeys : IndexRecord → Type 0
-HasNoKeys index = (key : List ℕ) → next_on_key index key ≡ None
-
-abbrev pub HasNoUploads : IndexRecord → Type 0
-HasNoUploads index = (number : ℕ) → next_on_upload index number ≡ None
-
--- the index's next action on each key, or on each upload, is the first one that the rules ask for
-abbrev pub StandsOnKeys : IndexRecord → BucketRecord → Type 0
-StandsOnKeys index bucket = (key : List ℕ) → next_on_key index key ≡ first_on_key bucket key
-
-abbrev pub StandsOnUploads : IndexRecord → BucketRecord → Type 0
-StandsOnUploads index bucket = (number : ℕ) → next_on_upload index number ≡ first_on_upload bucket number
-
--- the index has the table of these rules
-abbrev pub HasTable : IndexRecord → BucketRecord → Type 0
-HasTable index bucket = IsTable index.table (rules_of bucket.rules)
-
--- the next action on each key, or on each upload, is unchanged
-abbrev pub KeepsKeys : IndexRecord → IndexRecord → Type 0
-KeepsKeys old new = (key : List ℕ) → next_on_key new key ≡ next_on_key old key
-
-abbrev pub KeepsUploads : IndexRecord → IndexRecord → Type 0
-KeepsUploads old new = (number : ℕ) → next_on_upload new number ≡ next_on_upload old number
+-- the key has these blocks or those of before; all else is unchanged
+pub record SetsBlocks (old new : IndexRecord) (key : List ℕ) (blocks : List BlockRecord) : Type 0 where
+  pub actions : new.actions ≡ old.actions
+  pub here : (blocks_of key new.blocks ≡ blocks) ⊎ (blocks_of key new.blocks ≡ blocks_of key old.blocks)
+  pub others : (k : List ℕ) → (k ≡ key → ⊥) → blocks_of k new.blocks ≡ blocks_of k old.blocks

@@ -1,3 +1,5 @@
+pub mod Actions
+pub mod Blocks
 pub mod Firsts
 pub mod Index
 pub mod Places

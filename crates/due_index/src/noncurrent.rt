@@ -1,10 +1,13 @@
 // What a rule asks for the noncurrent versions of a key, searched from the oldest version on.
-ghost use Rattle.std.specs.Prelude.{◌≡◌, map, option_to_list};
+ghost use Rattle.std.specs.Prelude.{◌≡◌, ◌≤◌, ◌-◌, map, option_to_list};
 ghost use Rattle.due_core.specs.RuleActions.{matches_version, keeps_newer};
 ghost use Rattle.due_index.specs.Search.{on_key, with_each, IsFirstOf, IsOfStep, IsOfSteps, removal_step, move_step};
 ghost use Rattle.due_index.specs.Search.{admits_step, takes_step, step_of_version, steps_of};
+ghost use Rattle.due_index.specs.Blocks.{AreRightIn, AreRightAt, but_first};
 
 use crate::asked::{Aim, Placed, Setting, keeps_newer, later, matches_version};
+use crate::blocks::Blocks;
+use crate::passing::{Pass, passed_from};
 use crate::place::Place;
 use class_rules::may_go;
 use due_core::{ActionKind, Target};
@@ -22,7 +25,7 @@ pub(crate) struct Step {
     pub(crate) days: u32,
 }
 
-fn removal_step(expiration: Noncurrent) -> Step
+pub(crate) fn removal_step(expiration: Noncurrent) -> Step
     ensures { result ≡ removal_step expiration }
 {
     Step {
@@ -32,7 +35,7 @@ fn removal_step(expiration: Noncurrent) -> Step
     }
 }
 
-fn move_step(step: NoncurrentMove) -> Step
+pub(crate) fn move_step(step: NoncurrentMove) -> Step
     ensures { result ≡ move_step step }
 {
     Step {
@@ -58,7 +61,7 @@ fn admits_step(mode: SizeMode, filter: &Filter, kind: ActionKind, of: &Kind) -> 
 }
 
 // The rule's filter matches the version, and the kind of step fits it.
-fn takes_step(
+pub(crate) fn takes_step(
     mode: SizeMode,
     filter: &Filter,
     kind: ActionKind,
@@ -110,15 +113,37 @@ fn step_of_key(
     key: &Key,
     of_key: &Stack,
     step: Step,
+    blocks: &Blocks,
 )
+    requires some { 1 ≤ number }
+    requires number { number ≤ 1_000 }
+    requires right { AreRightIn setting.now.mode key.now (number - 1) rule.now step blocks.now
+        (but_first of_key.now.versions) }
     ensures { IsFirstOf (on_key key.now best.old) (IsOfStep setting.now (key.now, of_key.now) (number, rule.now) step)
         (on_key key.now best.new) }
 {
     let versions = of_key.versions();
     let in_order = of_key.is_in_order();
+    let place = number as usize - 1;
     let mut i = versions.len();
+    // The marks were read for the versions that ceased until this moment, in milliseconds.
+    let mut until = if blocks.list.is_empty() { u64::MAX } else { 0 };
     while i > 1 {
-        i -= 1;
+        let at = Pass { left: i, until };
+        let pass = passed_from(
+            at,
+            versions[i - 1].ceased,
+            in_order,
+            blocks,
+            of_key,
+            place,
+            step.kind,
+        );
+        if pass.left <= 1 {
+            return;
+        }
+        until = pass.until;
+        i = pass.left - 1;
         if !keeps_newer(step.newer, i as u64 - 1) {
             return;
         }
@@ -142,7 +167,12 @@ fn removal(
     number: u32,
     key: &Key,
     of_key: &Stack,
+    blocks: &Blocks,
 )
+    requires some { 1 ≤ number }
+    requires number { number ≤ 1_000 }
+    requires right { AreRightAt setting.now.mode key.now (number - 1) rule.now blocks.now
+        (but_first of_key.now.versions) }
     ensures { IsFirstOf (on_key key.now best.old)
         (IsOfSteps setting.now (key.now, of_key.now) (number, rule.now)
         (map removal_step (option_to_list rule.now.noncurrent_expiration)))
@@ -157,6 +187,7 @@ fn removal(
             key,
             of_key,
             removal_step(expiration),
+            blocks,
         ),
         None => {}
     }
@@ -170,13 +201,27 @@ fn moves(
     number: u32,
     key: &Key,
     of_key: &Stack,
+    blocks: &Blocks,
 )
+    requires some { 1 ≤ number }
+    requires number { number ≤ 1_000 }
+    requires right { AreRightAt setting.now.mode key.now (number - 1) rule.now blocks.now
+        (but_first of_key.now.versions) }
     ensures { IsFirstOf (on_key key.now best.old)
         (IsOfSteps setting.now (key.now, of_key.now) (number, rule.now) (map move_step rule.now.noncurrent_moves))
         (on_key key.now best.new) }
 {
     for asked in rule.noncurrent_moves.as_slice() {
-        step_of_key(best, setting, rule, number, key, of_key, move_step(*asked));
+        step_of_key(
+            best,
+            setting,
+            rule,
+            number,
+            key,
+            of_key,
+            move_step(*asked),
+            blocks,
+        );
     }
 }
 
@@ -188,11 +233,16 @@ pub(crate) fn noncurrent(
     number: u32,
     key: &Key,
     of_key: &Stack,
+    blocks: &Blocks,
 )
+    requires some { 1 ≤ number }
+    requires number { number ≤ 1_000 }
+    requires right { AreRightAt setting.now.mode key.now (number - 1) rule.now blocks.now
+        (but_first of_key.now.versions) }
     ensures { IsFirstOf (on_key key.now best.old)
         (IsOfSteps setting.now (key.now, of_key.now) (number, rule.now) (steps_of rule.now))
         (on_key key.now best.new) }
 {
-    removal(best, setting, rule, number, key, of_key);
-    moves(best, setting, rule, number, key, of_key);
+    removal(best, setting, rule, number, key, of_key, blocks);
+    moves(best, setting, rule, number, key, of_key, blocks);
 }

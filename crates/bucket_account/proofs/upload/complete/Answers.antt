@@ -1,11 +1,13 @@
 use Rattle.std.proofs.Common.{ℕ, List, refl, sym, ap, ◌∙◌, subst}
-use Rattle.std.specs.Prelude.{Result}
+use Rattle.std.specs.Prelude.{Result, None}
 use Rattle.due_core.specs.Buckets.{BucketRecord}
-use Rattle.stacks.specs.Stacks.{StackRecord}
+use Rattle.stacks.specs.Stacks.{StackRecord, new_id}
+use Rattle.due_index.proofs.Following.{follows_adding}
 use Rattle.plain_office.specs.Office.{book_of}
 use Rattle.plain_office.specs.Step.{complete}
 use Rattle.office_types.specs.declared.refusal.Refusal.{Refusal}
 use Rattle.bucket_account.specs.declared.change.Done.{Done}
+use Rattle.bucket_account.specs.Booking.{stack_put, stack_under}
 use Rattle.bucket_account.specs.Changing.{DoesTold}
 use Rattle.bucket_account.specs.Counting.{AccountRecord, AreCountsOver, account_of}
 use Rattle.bucket_account.proofs.Completed.{whats, object_ready, object_stay, object_later, object_room, completes_for, refuses_for}
@@ -121,6 +123,8 @@ returns-clause-done c = λ account stands orderly.
 pub renew_key_of-requires : goal.renew_key_of-requires
 renew_key_of-requires c =
     let kept = c.in-Some.kept.now in
+    let object = c.in_ok-object.object in
+    let stack = stack_under kept.key c.bucket.inside.stacks.entries in
     let before : BucketRecord = record {
       versioning = c.bucket.inside.versioning;
       rules = c.bucket.inside.rules;
@@ -143,7 +147,8 @@ renew_key_of-requires c =
       rest = (
         kept,
         sym c.in-Some.ensures.value,
-        stands_but_written kept.key c.args.index.now c.args.bucket.now before after c.bucket.view_is (record { rules = refl; versioning = refl; since = refl }) _ c.in_ok-counts.ensures.stacks refl c.requires.index,
+        stands_but_written kept.key c.args.index.now c.args.bucket.now before after c.bucket.view_is (record { rules = refl; versioning = refl; since = refl })
+            (stack_put object stack) (follows_adding None (new_id object.versioning object.number) object.kind object.at stack) c.in_ok-counts.ensures.stacks refl c.requires.index,
       );
     }
 

@@ -1,9 +1,11 @@
-use Rattle.std.proofs.Common.{ℕ, List, subst, sym, map}
+use Rattle.std.proofs.Common.{ℕ, ◌-◌, List, subst, sym, map}
 use Rattle.std.specs.Prelude.{option_to_list}
 use Rattle.rules_core.specs.declared.rule.Rule.{Rule}
 use Rattle.stacks.specs.Stacks.{StackRecord}
 use Rattle.due_index.specs.Search.{on_key, IsFirstOf, IsOfStep, IsOfSteps, removal_step}
 use Rattle.due_index.proofs.Noncurrents.{no_step, one_step}
+use Rattle.due_index.specs.Blocks.{but_first}
+use Rattle.due_index.proofs.RightSteps.{right_in, removal_among}
 use Rattle.due_index.proofs.noncurrent.removal.Goals as goal
 
 pub returns-in-Some : goal.returns-in-Some
@@ -22,3 +24,8 @@ returns-in-None c =
     let numbered : ℕ × Rule = (c.args.number, c.args.rule.now) in
     subst (λ e. IsFirstOf (on_key c.args.key.now c.args.best.now) (IsOfSteps c.args.setting.now entry numbered (map removal_step (option_to_list e)))
     (on_key c.args.key.now c.args.best.now)) (sym c.in-None.is) (no_step c.args.setting.now entry numbered (on_key c.args.key.now c.args.best.now))
+
+pub step_of_key-requires-clause-right : goal.step_of_key-requires-clause-right
+step_of_key-requires-clause-right c =
+    right_in c.args.setting.now.mode c.args.key.now (c.args.number - 1) c.args.rule.now c.removal_step.result c.args.blocks.now (but_first c.args.of_key.now.versions)
+    (removal_among c.args.rule.now c.in-Some.expiration c.removal_step.result c.in-Some.is c.removal_step.ensures) c.requires.right
