@@ -1,5 +1,5 @@
 // The index of the next actions.
-ghost use Rattle.std.specs.Prelude.{◌≡◌, ◌+◌, ◌≤◌, length, IfOk, IfSome, OnOk};
+ghost use Rattle.std.specs.Prelude.{◌≡◌, ◌+◌, ◌≤◌, ℕ, List, [], length, IfOk, IfSome, OnOk};
 ghost use Rattle.std.specs.Prelude.{OnErr, Some, None, option_copied, option_map};
 ghost use Rattle.due_core.specs.Buckets.{BucketRecord};
 ghost use Rattle.due_core.specs.Candidates.{candidates};
@@ -11,6 +11,7 @@ ghost use Rattle.due_index.specs.Actions.{ActionsStand, IsBucket, due_by, SetsNe
 ghost use Rattle.due_index.specs.Actions.{SetsNextOnUpload, ActionsStandButUpload, IsOnUpload, HasNoKeys, HasNoUploads};
 ghost use Rattle.due_index.specs.Actions.{StandsOnKeys, StandsOnUploads, KeepsKeys, KeepsUploads, HasTable};
 ghost use Rattle.due_index.specs.Blocks.{AreRightUnder};
+ghost use Rattle.due_index.specs.Index.{blocks_of};
 ghost use Rattle.due_index.specs.Table.{IsTable, rules_of};
 ghost use Rattle.due_index.specs.Places.{candidate_of, IsOnVersion};
 
@@ -361,9 +362,11 @@ impl ActionIndex {
 
     // Adds the first action on each key.
     #[tactic(auto, using(crate::proofs::Building::no_rules))]
-    fn take_keys(&mut self, bucket: &Bucket) -> Result<(), NoMemory>
+    fn take_keys(&mut self, bucket: &Bucket, blocks: &BTreeMap<Key, Blocks>) -> Result<(), NoMemory>
         requires none { HasNoKeys self.old }
         requires table { HasTable self.old bucket.now }
+        requires right { (key : List ℕ)
+            → AreRightUnder bucket.now.rules key (blocks_of key blocks.now.entries) (at_name key bucket.now.stacks) }
         ensures keys { OnOk result (StandsOnKeys self.new bucket.now) }
         ensures uploads { OnOk result (KeepsUploads self.old self.new) }
         ensures table { OnOk result (HasTable self.new bucket.now) }
@@ -374,7 +377,7 @@ impl ActionIndex {
         };
         let none = Blocks::new(self.alloc);
         for (key, _) in bucket.stacks.iter() {
-            let next = self.next_on_key(bucket, key, &none);
+            let next = self.next_on_key(bucket, key, blocks_at(blocks, key, &none));
             self.set_key(key, next)?;
         }
         Ok(())
@@ -395,39 +398,52 @@ impl ActionIndex {
         Ok(())
     }
 
-    /// Builds the index of a bucket.
+    /// Gives the index of a bucket without next actions, with the table of its rules alone.
     ///
-    /// Cost: a sort of the enabled rules, and an update for each key and upload; without rules none for a key. Takes
-    /// memory for each action and for each rule.
+    /// # Errors
+    ///
+    /// `NoMemory`: memory ran out.
+    pub(crate) fn begun(alloc: Global, bucket: &Bucket) -> Result<ActionIndex, NoMemory>
+        ensures keys { IfOk result HasNoKeys }
+        ensures uploads { IfOk result HasNoUploads }
+        ensures table { IfOk result (λ index. HasTable index bucket.now) }
+    {
+        let table = table_of(alloc, bucket)?;
+        Ok(ActionIndex::new(alloc, table))
+    }
+
+    /// Adds the next actions on all keys and uploads, with the blocks of keys that have some.
     ///
     /// # Errors
     ///
     /// `NoMemory`: memory ran out.
     #[tactic(auto, using(crate::proofs::Building::built, crate::proofs::Building::no_uploads_yet))]
-    pub(crate) fn build(alloc: Global, bucket: &Bucket) -> Result<ActionIndex, NoMemory>
-        ensures { IfOk result (λ index. ActionsStand index bucket.now) }
+    pub(crate) fn fill(
+        &mut self,
+        bucket: &Bucket,
+        blocks: &BTreeMap<Key, Blocks>,
+    ) -> Result<(), NoMemory>
+        requires keys { HasNoKeys self.old }
+        requires uploads { HasNoUploads self.old }
+        requires table { HasTable self.old bucket.now }
+        requires right { (key : List ℕ)
+            → AreRightUnder bucket.now.rules key (blocks_of key blocks.now.entries) (at_name key bucket.now.stacks) }
+        ensures { OnOk result (ActionsStand self.new bucket.now) }
     {
-        let table = table_of(alloc, bucket)?;
-        let mut index = ActionIndex::new(alloc, table);
-        index.take_keys(bucket)?;
-        index.take_uploads(bucket)?;
-        Ok(index)
-    }
-
-    /// Updates the next actions on all keys and uploads, after a change of the bucket's rules or versioning.
-    ///
-    /// Cost: as `build`.
-    ///
-    /// # Errors
-    ///
-    /// `NoMemory`: memory ran out. The index is then as before.
-    pub(crate) fn renew_all(&mut self, bucket: &Bucket) -> Result<(), NoMemory>
-        ensures ok { OnOk result (ActionsStand self.new bucket.now) }
-        ensures err { OnErr result (self.new ≡ self.old) }
-    {
-        let made = ActionIndex::build(self.alloc, bucket)?;
-        *self = made;
+        self.take_keys(bucket, blocks)?;
+        self.take_uploads(bucket)?;
         Ok(())
+    }
+}
+
+// Reads the blocks of a key; none if it has none.
+fn blocks_at<'a>(blocks: &'a BTreeMap<Key, Blocks>, key: &Key, none: &'a Blocks) -> &'a Blocks
+    requires { none.now ≡ [] }
+    ensures { result.now ≡ blocks_of key.now blocks.now.entries }
+{
+    match blocks.get(key) {
+        Some(found) => found,
+        None => none,
     }
 }
 
