@@ -127,12 +127,18 @@ fn joined(
     let mut sums = lists.sums.into_iter();
     for head in heads {
         let Some(its_stacks) = stacks.next() else {
+            drop(head);
             return Ok(None);
         };
         let Some(its_uploads) = uploads.next() else {
+            drop(head);
+            drop(its_stacks);
             return Ok(None);
         };
         let Some(its_sums) = sums.next() else {
+            drop(head);
+            drop(its_stacks);
+            drop(its_uploads);
             return Ok(None);
         };
         if parts
@@ -169,12 +175,16 @@ pub(crate) fn snapshot_in(
         return Ok(None);
     };
     let Some((lists, rest)) = lists_in(alloc, heads.len(), rest)? else {
+        drop(front);
         return Ok(None);
     };
     let Some((kept, rest)) = list_in(alloc, rest)? else {
+        drop(front);
+        drop(lists);
         return Ok(None);
     };
     let Some(buckets) = joined(alloc, heads, lists)? else {
+        drop(front);
         return Ok(None);
     };
     let snapshot = Snapshot {

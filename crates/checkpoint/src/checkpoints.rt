@@ -43,11 +43,13 @@ impl Body for Checkpoint {
             return Ok(None);
         };
         if !rest.is_empty() {
+            drop(snapshot);
             return Ok(None);
         }
         if is_restorable(alloc, &snapshot)? {
             Ok(Some(Checkpoint { snapshot }))
         } else {
+            drop(snapshot);
             Ok(None)
         }
     }

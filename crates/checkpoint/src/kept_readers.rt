@@ -42,9 +42,11 @@ fn command_with(text: &[u8], entry: Entry) -> Option<Command>
     ensures { result ≡ if_spelled text.now entry }
 {
     if entry.token.is_some() {
+        drop(entry);
         return None;
     }
     if !does_take_token(&entry.command) {
+        drop(entry);
         return None;
     }
     Some(entry.command)
