@@ -1,7 +1,7 @@
 // The words that the office takes, as a command of clap.
 ghost use Rattle.std.specs.Prelude.{◌≡◌, IfOk, false};
 ghost use Rattle.clap.specs.Walk.{rule_of};
-ghost use Rattle.clap.specs.Simple.{new_shape};
+ghost use Rattle.clap.specs.Simple.{App, new_shape, with_subcommand};
 ghost use Rattle.command_line.specs.Words.{option, needed_option, needed_word, flag};
 ghost use Rattle.command_line.specs.Words.{serve_words, report_words, explain_words};
 ghost use Rattle.command_line.specs.Words.{gen_words, bill_words, forecast_words, alone};
@@ -62,6 +62,23 @@ fn with_subcommand<'a>(command: Command<'a>, sub: Command<'a>) -> Result<Command
     ensures { IfOk result (GetsSubcommand command.entry sub.entry) }
 {
     command.subcommand(sub)
+}
+
+// Adds a subcommand, if there was memory to make it.
+fn with_made<'a>(
+    command: Command<'a>,
+    sub: Result<Command<'a>, AllocError>,
+) -> Result<Command<'a>, AllocError>
+    ensures { (app below : App) → IsWholeCommand app command.entry → IfOk sub.entry (IsWholeCommand below)
+        → IfOk result (IsWholeCommand (with_subcommand app below.top)) }
+{
+    match sub {
+        Ok(sub) => with_subcommand(command, sub),
+        Err(e) => {
+            drop(command);
+            Err(e)
+        }
+    }
 }
 
 // `serve --listen ADDRESS [--workers N] [--connections K]`.
@@ -129,10 +146,10 @@ pub(crate) fn office<'a>(alloc: Global) -> Result<Command<'a>, AllocError>
 {
     let command = with_subcommand(top(alloc), bare(alloc, "init"))?;
     let command = with_subcommand(command, bare(alloc, "run"))?;
-    let command = with_subcommand(command, serve(alloc)?)?;
-    let command = with_subcommand(command, report(alloc)?)?;
-    let command = with_subcommand(command, explain(alloc)?)?;
-    let command = with_subcommand(command, generate(alloc)?)?;
-    let command = with_subcommand(command, bill(alloc)?)?;
-    with_subcommand(command, forecast(alloc)?)
+    let command = with_made(command, serve(alloc))?;
+    let command = with_made(command, report(alloc))?;
+    let command = with_made(command, explain(alloc))?;
+    let command = with_made(command, generate(alloc))?;
+    let command = with_made(command, bill(alloc))?;
+    with_made(command, forecast(alloc))
 }
