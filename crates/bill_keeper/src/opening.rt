@@ -26,6 +26,14 @@ fn make_table<S: Alter>(conn: &mut Connection<S>) -> Result<(), Error>
     }
 }
 
+// Makes the table of bills if there is none, and returns the connection.
+fn with_table<S: Alter + Drop>(mut conn: Connection<S>) -> Result<Connection<S>, Error>
+    ensures idle { IfOk result (λ conn. conn.in_transaction ≡ false) }
+{
+    make_table(&mut conn)?;
+    Ok(conn)
+}
+
 fn create_in<S: Alter>(conn: &mut Connection<S>) -> Result<usize, Error>
     requires { (state S.Store conn.old).now.schema ≡ no_schema }
     ensures table { OnOk result (HasTable (state S.Store conn.new)) }
@@ -73,9 +81,7 @@ pub fn table_in_memory(alloc: Global) -> Result<Connection<MemStore>, NoMemory>
 fn open_at(rt: &HostRuntime, path: &str) -> Result<Connection<FileStore<File>>, Error>
     ensures idle { IfOk result (λ conn. conn.in_transaction ≡ false) }
 {
-    let mut conn = Connection::open(rt, path)?;
-    make_table(&mut conn)?;
-    Ok(conn)
+    with_table(Connection::open(rt, path)?)
 }
 
 /// Opens the database in the file at this path, outside a transaction. The file and the table are made if there are
