@@ -1,14 +1,15 @@
+use crate::given::{bucket, disk_with, equal, equal_bytes, key, no_tags, size, token};
 use class_rules::Class;
-use desk_core::{Clock, Desk, DeskFault, ListClock, SystemClock};
-use disk_core::{Disk, FileNo, MemoryDisk};
+use desk_core::{Acked, Clock, Desk, DeskFault, ListClock, SystemClock};
+use disk_core::{Disk, MemoryDisk};
 use meter_journal::{OpenFault, read_all};
 use moments::Month;
-use office_base::{BucketName, Key, Size, Tags, VersionId};
-use office_types::{Ask, Command, Query, Refusal, Reply, Token};
+use office_base::VersionId;
+use office_types::{Ask, Command, Query, Refusal, Reply};
 use std::alloc::Global;
+use std::fmt::Debug;
 use std::io;
 use std::process::Abort;
-use std::test::Fail;
 use std::time::{Clock as SystemTimes, Duration};
 
 // 2024-01-01 00:00 UTC.
@@ -45,13 +46,6 @@ const BEFORE_FRAME: &[u8] = &[
     0, 0, 0, 15, 0, 0, 0x01, 0x8C, 0xC2, 0x51, 0xF3, 0xFF, 0x01, 0, 4, 0x64, 0x61, 0x74, 0x61, 0,
 ];
 
-// A journal file with these bytes. The write is the first call of its disk.
-fn disk_with(alloc: Global, bytes: &[u8], failing: &[u64]) -> Result<MemoryDisk, Fail> {
-    let mut disk = MemoryDisk::new(alloc, failing.to_vec(alloc)?);
-    disk.write_at(FileNo::Journal, 0, bytes)?;
-    Ok(disk)
-}
-
 // The frame of data, without its last byte.
 const CUT_FRAME: &[u8] = &[
     0, 0, 0, 15, 0, 0, 0x01, 0x8C, 0xC2, 0x51, 0xF4, 0x00, 0x01, 0, 4, 0x64, 0x61, 0x74, 0x61,
@@ -63,15 +57,15 @@ const LOGS_FRAME: &[u8] = &[
 ];
 
 // The bytes of the bucket logs, with a further frame after them.
-fn logs_and(alloc: Global, frame: &[u8]) -> Result<Vec<u8>, Fail> {
-    let mut bytes = LOGS[..30].to_vec(alloc)?;
-    bytes.push(0xA5)?;
-    bytes.extend_from_slice(frame)?;
-    Ok(bytes)
+fn logs_and(rt: &impl Abort, alloc: Global, frame: &[u8]) -> Vec<u8> {
+    let mut bytes = LOGS[..30].to_vec(alloc).expect(rt, "memory");
+    bytes.push(0xA5).expect(rt, "memory");
+    bytes.extend_from_slice(frame).expect(rt, "memory");
+    bytes
 }
 
 // What a desk is asked about a bucket with this name.
-#[derive(Clone, Copy, Debug)]
+#[derive(Clone, Copy)]
 enum Wish {
     Make(&'static str),
     Show(&'static str),
@@ -85,46 +79,47 @@ enum Wish {
     ActOnce(&'static str, &'static str),
 }
 
-fn put(alloc: Global, name: &str, size: u64) -> Result<Command, Fail> {
-    let size = Size::of(size)?;
-    let tags = Tags::read(alloc, Vec::new(alloc))?;
-    let key = Key::read(alloc, b"a")?;
-    Ok(Command::Put {
-        bucket: BucketName::read(alloc, name)?,
-        key,
-        size,
+fn put(rt: &impl Abort, alloc: Global, name: &str, bytes: u64) -> Command {
+    Command::Put {
+        bucket: bucket(rt, alloc, name),
+        key: key(rt, alloc, "a"),
+        size: size(rt, bytes),
         class: Class::Standard,
-        tags,
-    })
+        tags: no_tags(rt, alloc),
+    }
 }
 
-fn make(alloc: Global, name: &str) -> Result<Command, Fail> {
-    let bucket = BucketName::read(alloc, name)?;
-    Ok(Command::CreateBucket { bucket })
+fn make(rt: &impl Abort, alloc: Global, name: &str) -> Command {
+    Command::CreateBucket {
+        bucket: bucket(rt, alloc, name),
+    }
 }
 
-fn act(alloc: Global, name: &str) -> Result<Command, Fail> {
-    let bucket = BucketName::read(alloc, name)?;
-    Ok(Command::Act { bucket })
+fn act(rt: &impl Abort, alloc: Global, name: &str) -> Command {
+    Command::Act {
+        bucket: bucket(rt, alloc, name),
+    }
 }
 
-fn once(alloc: Global, token: &str, command: Command) -> Result<Ask, Fail> {
-    let token = Token::read(alloc, token.as_bytes())?.ok_or("no token")?;
-    Ok(Ask::Once { token, command })
+fn once(rt: &impl Abort, alloc: Global, text: &str, command: Command) -> Ask {
+    Ask::Once {
+        token: token(rt, alloc, text),
+        command,
+    }
 }
 
-fn asked(alloc: Global, wish: Wish) -> Result<Ask, Fail> {
+fn asked(rt: &impl Abort, alloc: Global, wish: Wish) -> Ask {
     match wish {
-        Wish::Make(name) => Ok(Ask::Command(make(alloc, name)?)),
-        Wish::Show(name) => Ok(Ask::Query(Query::Bucket(BucketName::read(alloc, name)?))),
-        Wish::Put(name, size) => Ok(Ask::Command(put(alloc, name, size)?)),
+        Wish::Make(name) => Ask::Command(make(rt, alloc, name)),
+        Wish::Show(name) => Ask::Query(Query::Bucket(bucket(rt, alloc, name))),
+        Wish::Put(name, size) => Ask::Command(put(rt, alloc, name, size)),
         Wish::January(name) => {
-            let month = Month::of(2024, 1).ok_or("no month")?;
-            Ok(Ask::Query(Query::Meters(BucketName::read(alloc, name)?, month)))
+            let month = Month::of(2024, 1).expect(rt, "a month");
+            Ask::Query(Query::Meters(bucket(rt, alloc, name), month))
         }
-        Wish::MakeOnce(token, name) => once(alloc, token, make(alloc, name)?),
-        Wish::PutOnce(token, name, size) => once(alloc, token, put(alloc, name, size)?),
-        Wish::ActOnce(token, name) => once(alloc, token, act(alloc, name)?),
+        Wish::MakeOnce(token, name) => once(rt, alloc, token, make(rt, alloc, name)),
+        Wish::PutOnce(token, name, size) => once(rt, alloc, token, put(rt, alloc, name, size)),
+        Wish::ActOnce(token, name) => once(rt, alloc, token, act(rt, alloc, name)),
     }
 }
 
@@ -178,52 +173,95 @@ fn reply_of(reply: &Result<Reply, Refusal>) -> Heard {
     }
 }
 
-// What the desk answers, and whether it is stale afterwards.
-fn answer(desk: &mut Desk<MemoryDisk, ListClock>, ask: &Ask) -> (Said, bool) {
-    let said = match desk.submit(ask) {
-        Ok(acked) => Ok((reply_of(acked.reply()), acked.position())),
+fn answer_of(acked: Acked) -> (Heard, u64) {
+    let heard = (reply_of(acked.reply()), acked.position());
+    drop(acked);
+    heard
+}
+
+// What the desk answers.
+fn answer(
+    rt: &impl Abort,
+    alloc: Global,
+    desk: &mut Desk<MemoryDisk, ListClock>,
+    wish: Wish,
+) -> Said {
+    let ask = asked(rt, alloc, wish);
+    let answer = desk.submit(&ask);
+    drop(ask);
+    match answer {
+        Ok(acked) => Ok(answer_of(acked)),
         Err(fault) => Err(fault),
-    };
-    (said, desk.stale())
+    }
 }
 
 // A wish, with the desk's answer and whether it is stale afterwards.
 type Turn = (Wish, Said, bool);
 
-// Opens a desk over this disk and a clock that gives these numbers, takes the turns, and returns the disk, with the
-// fault if the desk was not opened.
+fn assert_turns(
+    rt: &impl Abort,
+    alloc: Global,
+    row: &impl Debug,
+    desk: &mut Desk<MemoryDisk, ListClock>,
+    turns: &[Turn],
+) {
+    for (index, (wish, said, stale)) in turns.iter().enumerate() {
+        let found = answer(rt, alloc, desk, *wish);
+        equal(rt, &(row, index), &(found, desk.stale()), &(*said, *stale));
+    }
+}
+
+// The numbers that the clock gives, the limit of the journal, and the turns.
+type Session<'a> = (&'a [u64], u64, &'a [Turn]);
+
+// The disk after these turns.
+fn taken(
+    rt: &impl Abort,
+    alloc: Global,
+    row: &impl Debug,
+    mut desk: Desk<MemoryDisk, ListClock>,
+    turns: &[Turn],
+) -> MemoryDisk {
+    assert_turns(rt, alloc, row, &mut desk, turns);
+    let (disk, clock, _) = desk.finish();
+    drop(clock);
+    disk
+}
+
+// Opens a desk over this disk, takes the turns, and returns the disk, with the fault if the desk was not opened.
 fn take_turns(
     rt: &impl Abort,
     alloc: Global,
+    row: &impl Debug,
     disk: MemoryDisk,
-    numbers: &[u64],
-    limit: u64,
-    turns: &[Turn],
-) -> Result<(Option<OpenFault>, MemoryDisk), Fail> {
-    let clock = ListClock::new(numbers.to_vec(alloc)?);
+    (numbers, limit, turns): Session<'_>,
+) -> (Option<OpenFault>, MemoryDisk) {
+    let clock = ListClock::new(numbers.to_vec(alloc).expect(rt, "memory"));
     match Desk::open(alloc, disk, clock, limit.min(1 << 45)) {
-        Err((fault, disk, _)) => Ok((Some(fault), disk)),
-        Ok(mut desk) => {
-            for (wish, said, stale) in turns {
-                let found = answer(&mut desk, &asked(alloc, *wish)?);
-                assert_eq!(rt; found, (*said, *stale), "{wish:?}, limit {limit}");
-            }
-            Ok((None, desk.finish().0))
+        Ok(desk) => (None, taken(rt, alloc, row, desk, turns)),
+        Err((fault, disk, clock)) => {
+            drop(clock);
+            (Some(fault), disk)
         }
     }
 }
 
-// The same, with the bytes of the journal file afterwards.
-fn kept_after(
+// The same, if the desk is opened.
+fn turns_taken(
     rt: &impl Abort,
     alloc: Global,
+    row: &impl Debug,
     disk: MemoryDisk,
-    numbers: &[u64],
-    limit: u64,
-    turns: &[Turn],
-) -> Result<(Option<OpenFault>, Vec<u8>), Fail> {
-    let (fault, mut disk) = take_turns(rt, alloc, disk, numbers, limit, turns)?;
-    Ok((fault, read_all(alloc, &mut disk)?))
+    session: Session<'_>,
+) -> MemoryDisk {
+    let (fault, disk) = take_turns(rt, alloc, row, disk, session);
+    equal(rt, row, &fault, &None);
+    disk
+}
+
+// The bytes of the journal file.
+fn kept(rt: &impl Abort, alloc: Global, mut disk: MemoryDisk) -> Vec<u8> {
+    read_all(alloc, &mut disk).expect(rt, "the file")
 }
 
 const MAKE: Wish = Wish::Make("logs");
@@ -262,21 +300,21 @@ const MAKINGS: &[(u64, u64, Said, Said, &[u8])] = &[
 ];
 
 #[test]
-fn a_bucket_is_made_once_and_within_the_limit(rt: HostRuntime) -> Result<(), Fail> {
+fn a_bucket_is_made_once_and_within_the_limit(rt: HostRuntime) {
+    let alloc = rt.alloc();
     for (number, limit, first, second, file) in MAKINGS {
         let turns = [(MAKE, *first, false), (MAKE, *second, false)];
-        let disk = disk_with(rt.alloc(), EMPTY, &[])?;
-        let (fault, kept) = kept_after(&rt, rt.alloc(), disk, &[*number], *limit, &turns)?;
-        assert_eq!(rt; fault, None, "limit {limit}");
-        assert!(rt; kept.as_slice() == *file, "limit {limit}");
+        let disk = disk_with(&rt, alloc, EMPTY, &[]);
+        let row = (*number, *limit);
+        let disk = turns_taken(&rt, alloc, &row, disk, (&[*number], *limit, &turns));
+        equal_bytes(&rt, &row, &kept(&rt, alloc, disk), *file);
     }
-    Ok(())
 }
 
 const DAMAGED: Option<OpenFault> = Some(OpenFault::Damaged { offset: 30 });
 
 // What a journal file holds: bytes that are not an entry, or the bucket logs and a further frame.
-#[derive(Clone, Copy, Debug)]
+#[derive(Clone, Copy)]
 enum Holding {
     Bytes(&'static [u8]),
     LogsAnd(&'static [u8]),
@@ -298,59 +336,77 @@ const OPENINGS: &[(Holding, Option<OpenFault>, Heard)] = &[
 ];
 
 // The bytes of a file.
-fn bytes_of(alloc: Global, holding: &Holding) -> Result<Vec<u8>, Fail> {
+fn bytes_of(rt: &impl Abort, alloc: Global, holding: &Holding) -> Vec<u8> {
     match holding {
-        Holding::Bytes(bytes) => Ok(bytes.to_vec(alloc)?),
-        Holding::LogsAnd(frame) => logs_and(alloc, *frame),
+        Holding::Bytes(bytes) => bytes.to_vec(alloc).expect(rt, "memory"),
+        Holding::LogsAnd(frame) => logs_and(rt, alloc, *frame),
     }
 }
 
+// Opens a desk over a file, makes the bucket logs again and the bucket data, and returns the fault and the file.
+fn opened(
+    rt: &impl Abort,
+    alloc: Global,
+    row: usize,
+    file: &[u8],
+    data: Heard,
+) -> (Option<OpenFault>, Vec<u8>) {
+    let end = (file.len() as u64).saturating_sub(1);
+    // The clock gives 0, and the entry has the moment of the one before.
+    let turns = [
+        (MAKE, Ok((Heard::There, end)), false),
+        (Wish::Make("data"), Ok((data, 50)), false),
+    ];
+    let disk = disk_with(rt, alloc, file, &[]);
+    let (fault, disk) = take_turns(rt, alloc, &row, disk, (&[], 1 << 45, &turns));
+    (fault, kept(rt, alloc, disk))
+}
+
 #[test]
-fn a_journal_is_opened_where_the_office_accepts_it(rt: HostRuntime) -> Result<(), Fail> {
+fn a_journal_is_opened_where_the_office_accepts_it(rt: HostRuntime) {
     let alloc = rt.alloc();
-    let both = logs_and(alloc, DATA_FRAME)?;
-    for (holding, fault, data) in OPENINGS {
-        let file = bytes_of(alloc, holding)?;
-        let end = (file.len() as u64).saturating_sub(1);
-        // The clock gives 0, and the entry has the moment of the one before.
-        let turns = [
-            (MAKE, Ok((Heard::There, end)), false),
-            (Wish::Make("data"), Ok((*data, 50)), false),
-        ];
-        let disk = disk_with(alloc, &file, &[])?;
-        let (found, kept) = kept_after(&rt, alloc, disk, &[], 1 << 45, &turns)?;
-        assert_eq!(rt; found, *fault, "{holding:?}");
-        let is_so = if fault.is_none() {
-            kept.as_slice() == both.as_slice()
+    for (index, (holding, fault, data)) in OPENINGS.iter().enumerate() {
+        let file = bytes_of(&rt, alloc, holding);
+        let (found, kept) = opened(&rt, alloc, index, &file, *data);
+        equal(&rt, &index, &found, fault);
+        let wanted = if fault.is_none() {
+            logs_and(&rt, alloc, DATA_FRAME)
         } else {
-            kept.as_slice() == file.as_slice()
+            file
         };
-        assert!(rt; is_so, "{holding:?}");
+        equal_bytes(&rt, &index, &kept, &wanted);
     }
-    Ok(())
+}
+
+// Makes the bucket logs on an empty journal whose disk fails at a call, and returns the fault and the disk.
+fn made_at_fault(rt: &impl Abort, alloc: Global, call: u64) -> (Option<OpenFault>, MemoryDisk) {
+    let disk = disk_with(rt, alloc, EMPTY, &[call]);
+    take_turns(rt, alloc, &call, disk, (&[J0], 100, &[(MAKE, LOST, true)]))
+}
+
+// Opens the office again and makes the bucket logs: it is there if and only if the gate of its entry is open.
+fn assert_made_again(rt: &impl Abort, alloc: Global, call: u64, mut disk: MemoryDisk) {
+    let file = read_all(alloc, &mut disk).expect(rt, "the file");
+    let is_open = file.get(10) == Some(&0xA5);
+    let said = if is_open { THERE } else { MADE };
+    turns_taken(rt, alloc, &call, disk, (&[J0], 100, &[(MAKE, said, false)]));
 }
 
 #[test]
-fn a_fault_of_the_store_is_told(rt: HostRuntime) -> Result<(), Fail> {
+fn a_fault_of_the_store_is_told(rt: HostRuntime) {
     let alloc = rt.alloc();
     // Calls 2 to 7 open the office: a sync, the lengths of the two slots, the length of the journal, its head, and the
     // first gate. Calls 8 to 13 add the entry: three writes, a sync, the gate, and a sync.
     for call in 2..14 {
-        let disk = disk_with(alloc, EMPTY, &[call])?;
-        let (fault, mut disk) = take_turns(&rt, alloc, disk, &[J0], 100, &[(MAKE, LOST, true)])?;
-        let want = if call < 8 {
+        let (fault, disk) = made_at_fault(&rt, alloc, call);
+        let wanted = if call < 8 {
             Some(OpenFault::StoreFault)
         } else {
             None
         };
-        assert_eq!(rt; (fault, disk.faults()), (want, 1), "call {call}");
-        // Opened again, the office has the bucket if and only if the gate of its entry is open.
-        let is_open = read_all(alloc, &mut disk)?.get(10) == Some(&0xA5);
-        let said = if is_open { THERE } else { MADE };
-        let (fault, _) = take_turns(&rt, alloc, disk, &[J0], 100, &[(MAKE, said, false)])?;
-        assert_eq!(rt; fault, None, "call {call}");
+        equal(&rt, &call, &(fault, disk.faults()), &(wanted, 1));
+        assert_made_again(&rt, alloc, call, disk);
     }
-    Ok(())
 }
 
 // The calls of the disk that fail, over an empty journal; the clock's numbers; and the turns.
@@ -424,13 +480,17 @@ const QUERIES: &[Row] = &[(
     ],
 )];
 
-fn assert_rows(rt: &impl Abort, alloc: Global, rows: &[Row]) -> Result<(), Fail> {
+fn assert_rows(rt: &impl Abort, alloc: Global, rows: &[Row]) {
     for (failing, numbers, turns) in rows {
-        let disk = disk_with(alloc, EMPTY, *failing)?;
-        let (fault, _) = take_turns(rt, alloc, disk, *numbers, 1 << 20, *turns)?;
-        assert_eq!(rt; fault, None, "{failing:?}, {numbers:?}");
+        let disk = disk_with(rt, alloc, EMPTY, *failing);
+        turns_taken(
+            rt,
+            alloc,
+            &(*failing, *numbers),
+            disk,
+            (*numbers, 1 << 20, *turns),
+        );
     }
-    Ok(())
 }
 
 const ONCE: Wish = Wish::MakeOnce("t1", "logs");
@@ -504,64 +564,72 @@ const TOKENS: &[Row] = &[
     ),
 ];
 
+// Turns at a limit at which nothing more is added.
+const AT_THE_LIMIT: &[Turn] = &[
+    (ONCE, MADE_ONCE, false),
+    (ONCE, MADE_ONCE, false),
+    (OTHER, REUSED, false),
+    (MAKE, FULL, false),
+    (Wish::MakeOnce("t2", "logs"), FULL, false),
+];
+
 // A kept reply needs no room in the journal, even after it is opened again.
 #[test]
-fn a_kept_reply_is_given_at_the_limit(rt: HostRuntime) -> Result<(), Fail> {
+fn a_kept_reply_is_given_at_the_limit(rt: HostRuntime) {
     let alloc = rt.alloc();
-    let turns = [
-        (ONCE, MADE_ONCE, false),
-        (ONCE, MADE_ONCE, false),
-        (OTHER, REUSED, false),
-        (MAKE, FULL, false),
-        (Wish::MakeOnce("t2", "logs"), FULL, false),
-    ];
-    let disk = disk_with(alloc, EMPTY, &[])?;
-    let (fault, disk) = take_turns(&rt, alloc, disk, &[J0], 33, &[(ONCE, FULL, false)])?;
-    assert_eq!(rt; fault, None);
-    let (fault, disk) = take_turns(&rt, alloc, disk, &[J0], 34, &turns)?;
-    assert_eq!(rt; fault, None);
-    let (fault, mut disk) = take_turns(&rt, alloc, disk, &[J0], 34, &turns)?;
-    assert_eq!(rt; fault, None);
-    assert_eq!(rt; read_all(alloc, &mut disk)?.len(), 34);
-    Ok(())
+    let disk = disk_with(&rt, alloc, EMPTY, &[]);
+    let disk = turns_taken(
+        &rt,
+        alloc,
+        &"full",
+        disk,
+        (&[J0], 33, &[(ONCE, FULL, false)]),
+    );
+    let disk = turns_taken(&rt, alloc, &"at the limit", disk, (&[J0], 34, AT_THE_LIMIT));
+    let disk = turns_taken(&rt, alloc, &"opened again", disk, (&[J0], 34, AT_THE_LIMIT));
+    equal(&rt, &"the file", &kept(&rt, alloc, disk).len(), &34);
 }
 
 const DESKS: &[&[Row]] = &[STALE, CLOCKS, QUERIES, TOKENS];
 
 #[test]
-fn stale_desks_clocks_and_queries(rt: HostRuntime) -> Result<(), Fail> {
+fn stale_desks_clocks_and_queries(rt: HostRuntime) {
     for rows in DESKS {
-        assert_rows(&rt, rt.alloc(), *rows)?;
+        assert_rows(&rt, rt.alloc(), *rows);
     }
-    Ok(())
 }
 
-#[test]
-fn meters_are_the_same_after_an_opening(rt: HostRuntime) -> Result<(), Fail> {
-    let alloc = rt.alloc();
-    let disk = disk_with(alloc, EMPTY, &[])?;
-    // 1,000 bytes for one day, and 2,000 bytes for another.
-    let used = (
-        Wish::January("logs"),
-        Ok((Heard::Standard(259_200_000_000), 96)),
+// 1,000 bytes for one day, and 2,000 bytes for another.
+const USED: Turn = (
+    Wish::January("logs"),
+    Ok((Heard::Standard(259_200_000_000), 96)),
+    false,
+);
+
+const METERED: &[Turn] = &[
+    (MAKE, MADE, false),
+    (Wish::Put("logs", 1_000), Ok((Heard::Stored(J0), 63)), false),
+    (
+        Wish::Put("logs", 2_000),
+        Ok((Heard::Stored(J0 + DAY), 96)),
         false,
-    );
-    let turns = [
-        (MAKE, MADE, false),
-        (Wish::Put("logs", 1_000), Ok((Heard::Stored(J0), 63)), false),
-        (
-            Wish::Put("logs", 2_000),
-            Ok((Heard::Stored(J0 + DAY), 96)),
-            false,
-        ),
-        used,
-    ];
+    ),
+    USED,
+];
+
+#[test]
+fn meters_are_the_same_after_an_opening(rt: HostRuntime) {
+    let alloc = rt.alloc();
+    let disk = disk_with(&rt, alloc, EMPTY, &[]);
     let numbers = [J0, J0, J0 + DAY, J0 + 2 * DAY];
-    let (fault, disk) = take_turns(&rt, alloc, disk, &numbers, 1 << 20, &turns)?;
-    assert_eq!(rt; fault, None);
-    let (fault, _) = take_turns(&rt, alloc, disk, &[J0 + 2 * DAY], 1 << 20, &[used])?;
-    assert_eq!(rt; fault, None);
-    Ok(())
+    let disk = turns_taken(&rt, alloc, &"metered", disk, (&numbers, 1 << 20, METERED));
+    turns_taken(
+        &rt,
+        alloc,
+        &"opened again",
+        disk,
+        (&[J0 + 2 * DAY], 1 << 20, &[USED]),
+    );
 }
 
 /// A machine's clock that stands still, or does not answer.
@@ -594,20 +662,24 @@ const LISTS: &[(&[u64], [u64; 5])] = &[
     (&[], [0; 5]),
 ];
 
+fn assert_told(rt: &impl Abort, alloc: Global, moments: &[u64], told: &[u64]) {
+    let mut clock = ListClock::new(moments.to_vec(alloc).expect(rt, "memory"));
+    for (index, number) in told.iter().enumerate() {
+        equal(rt, &(moments, index), &tell(&mut clock), number);
+    }
+}
+
 #[test]
-fn clocks_tell_milliseconds(rt: HostRuntime) -> Result<(), Fail> {
-    let alloc = rt.alloc();
+fn clocks_tell_milliseconds(rt: HostRuntime) {
     for (moments, told) in LISTS {
-        let mut clock = ListClock::new(moments.to_vec(alloc)?);
-        for number in told {
-            assert_eq!(rt; tell(&mut clock), *number, "{moments:?}");
-        }
+        assert_told(&rt, rt.alloc(), *moments, told);
     }
     // 2024-01-01 00:00 UTC and 5,999,999 nanoseconds.
     let at = Some(Duration::new(1_704_067_200, 5_999_999));
-    assert_eq!(rt; tell(&mut SystemClock::new(Stopped { at })), J0 + 5);
-    assert_eq!(rt; tell(&mut SystemClock::new(Stopped { at: None })), u64::MAX);
+    let told = tell(&mut SystemClock::new(Stopped { at }));
+    equal(&rt, &"stopped", &told, &(J0 + 5));
+    let told = tell(&mut SystemClock::new(Stopped { at: None }));
+    equal(&rt, &"no answer", &told, &u64::MAX);
     // The machine's own clock is past that day.
     assert!(rt; J0 < tell(&mut SystemClock::new(rt)));
-    Ok(())
 }

@@ -6,4 +6,6 @@ mod desk_core_tests;
 #[cfg(test)]
 mod generator_tests;
 #[cfg(test)]
+mod given;
+#[cfg(test)]
 mod stay_explain_tests;

@@ -1,16 +1,16 @@
+ghost use Rattle.office_types.specs.Tokens.{MayCarry};
+
+use crate::given::{bucket, disk_with, equal, equal_bytes, key, no_tags, size, token};
 use class_rules::Class;
-use disk_core::{Disk, FileNo, MemoryDisk};
 use entry_codec::encode;
 use meter_journal::OpenFault;
 use moments::Moment;
-use office_base::{BucketName, Key, Nth, Size, Tags, VersionId};
+use office_base::{NoMemory, Nth, VersionId};
 use office_types::{Command, Entry, Token};
-use rules_core::RuleSet;
 use rules_json::read_rules;
 use stay_explain::explain;
 use std::alloc::Global;
 use std::process::Abort;
-use std::test::Fail;
 use std::thread::Threads;
 
 // 2024-01-01 00:00 UTC, and the milliseconds of a day.
@@ -30,7 +30,7 @@ const RULES: &str = "{\"Rules\":[{\"ID\":\"all\",\"Filter\":{\"Prefix\":\"\"},\
     \"AbortIncompleteMultipartUpload\":{\"DaysAfterInitiation\":7}}]}";
 
 // A command in a few words. All but the first and the last are on the bucket logs.
-#[derive(Clone, Copy, Debug)]
+#[derive(Clone, Copy)]
 enum Wish<'a> {
     Make(&'a str),
     Enable,
@@ -50,70 +50,61 @@ enum Wish<'a> {
     Once(&'a str, &'a str),
 }
 
-fn logs(alloc: Global) -> Result<BucketName, Fail> {
-    Ok(BucketName::read(alloc, "logs")?)
-}
-
-fn key(alloc: Global, text: &str) -> Result<Key, Fail> {
-    Ok(Key::read(alloc, text.as_bytes())?)
-}
-
-fn rules(alloc: Global) -> Result<RuleSet, Fail> {
-    match read_rules(alloc, RULES.as_bytes()) {
-        Ok(rules) => Ok(rules),
-        Err(_) => Err(Fail::new("no rules")),
+fn put(
+    rt: &impl Abort,
+    alloc: Global,
+    name: &str,
+    text: &str,
+    bytes: u64,
+    class: Class,
+) -> Command {
+    Command::Put {
+        bucket: bucket(rt, alloc, name),
+        key: key(rt, alloc, text),
+        size: size(rt, bytes),
+        class,
+        tags: no_tags(rt, alloc),
     }
 }
 
-fn none(alloc: Global) -> Result<Tags, Fail> {
-    Ok(Tags::read(alloc, Vec::new(alloc))?)
+fn gone(rt: &impl Abort, alloc: Global, text: &str, number: u64) -> Command {
+    Command::DeleteVersion {
+        bucket: bucket(rt, alloc, "logs"),
+        key: key(rt, alloc, text),
+        id: VersionId::Number(Nth::of(number).expect(rt, "a version")),
+    }
 }
 
-fn put(alloc: Global, bucket: &str, name: &str, size: u64, class: Class) -> Result<Command, Fail> {
-    Ok(Command::Put {
-        bucket: BucketName::read(alloc, bucket)?,
-        key: key(alloc, name)?,
-        size: Size::of(size)?,
+fn start(rt: &impl Abort, alloc: Global, text: &str, class: Class) -> Command {
+    Command::StartUpload {
+        bucket: bucket(rt, alloc, "logs"),
+        key: key(rt, alloc, text),
         class,
-        tags: none(alloc)?,
-    })
+        tags: no_tags(rt, alloc),
+    }
 }
 
-fn gone(alloc: Global, name: &str, number: u64) -> Result<Command, Fail> {
-    Ok(Command::DeleteVersion {
-        bucket: logs(alloc)?,
-        key: key(alloc, name)?,
-        id: VersionId::Number(Nth::of(number).ok_or("no such version")?),
-    })
+fn delete(rt: &impl Abort, alloc: Global, text: &str) -> Command {
+    Command::Delete {
+        bucket: bucket(rt, alloc, "logs"),
+        key: key(rt, alloc, text),
+    }
 }
 
-fn start(alloc: Global, name: &str, class: Class) -> Result<Command, Fail> {
-    Ok(Command::StartUpload {
-        bucket: logs(alloc)?,
-        key: key(alloc, name)?,
-        class,
-        tags: none(alloc)?,
-    })
-}
-
-fn delete(alloc: Global, name: &str) -> Result<Command, Fail> {
-    Ok(Command::Delete {
-        bucket: logs(alloc)?,
-        key: key(alloc, name)?,
-    })
-}
-
-fn set_rules(alloc: Global) -> Result<Command, Fail> {
-    Ok(Command::SetRules {
-        bucket: logs(alloc)?,
-        rules: rules(alloc)?,
-    })
+fn set_rules(rt: &impl Abort, alloc: Global) -> Command {
+    match read_rules(alloc, RULES.as_bytes()) {
+        Ok(rules) => Command::SetRules {
+            bucket: bucket(rt, alloc, "logs"),
+            rules,
+        },
+        Err(_) => panic!(rt; "no rules"),
+    }
 }
 
 // A command on the bucket logs without a key.
-fn plain(alloc: Global, wish: Wish<'_>) -> Result<Command, Fail> {
-    let bucket = logs(alloc)?;
-    Ok(match wish {
+fn plain(rt: &impl Abort, alloc: Global, wish: Wish<'_>) -> Command {
+    let bucket = bucket(rt, alloc, "logs");
+    match wish {
         Wish::Enable => Command::SetVersioning {
             bucket,
             enabled: true,
@@ -131,115 +122,104 @@ fn plain(alloc: Global, wish: Wish<'_>) -> Result<Command, Fail> {
         Wish::Complete(upload) => Command::Complete { bucket, upload },
         Wish::Abort(upload) => Command::Abort { bucket, upload },
         _ => Command::Act { bucket },
-    })
+    }
 }
 
-fn command(alloc: Global, wish: Wish<'_>) -> Result<Command, Fail> {
+fn command(rt: &impl Abort, alloc: Global, wish: Wish<'_>) -> Command {
     match wish {
-        Wish::Make(name) | Wish::Once(_, name) => Ok(Command::CreateBucket {
-            bucket: BucketName::read(alloc, name)?,
-        }),
-        Wish::Rules => set_rules(alloc),
-        Wish::Put(name, size, class) => put(alloc, "logs", name, size, class),
-        Wish::PutIn(bucket, name) => put(alloc, bucket, name, 1, Class::Standard),
-        Wish::Delete(name) => delete(alloc, name),
-        Wish::Gone(name, number) => gone(alloc, name, number),
-        Wish::Start(name, class) => start(alloc, name, class),
-        _ => plain(alloc, wish),
+        Wish::Make(name) | Wish::Once(_, name) => Command::CreateBucket {
+            bucket: bucket(rt, alloc, name),
+        },
+        Wish::Rules => set_rules(rt, alloc),
+        Wish::Put(text, bytes, class) => put(rt, alloc, "logs", text, bytes, class),
+        Wish::PutIn(name, text) => put(rt, alloc, name, text, 1, Class::Standard),
+        Wish::Delete(text) => delete(rt, alloc, text),
+        Wish::Gone(text, number) => gone(rt, alloc, text, number),
+        Wish::Start(text, class) => start(rt, alloc, text, class),
+        _ => plain(rt, alloc, wish),
     }
 }
 
 // The token of a command that carries one.
-fn token(alloc: Global, wish: Wish<'_>) -> Result<Option<Token>, Fail> {
+fn token_of(rt: &impl Abort, alloc: Global, wish: Wish<'_>) -> Option<Token> {
     match wish {
-        Wish::Once(token, _) => Ok(Token::read(alloc, token.as_bytes())?),
-        _ => Ok(None),
+        Wish::Once(text, _) => Some(token(rt, alloc, text)),
+        _ => None,
     }
+}
+
+fn encoded(alloc: Global, entry: Entry) -> Result<Vec<u8>, NoMemory>
+    requires { MayCarry entry.token entry.command }
+{
+    let bytes = encode(alloc, &entry);
+    drop(entry);
+    bytes
 }
 
 // The bytes of a command this many milliseconds after New Year.
-fn spelled(alloc: Global, after: u64, wish: Wish<'_>) -> Result<Vec<u8>, Fail> {
-    let moment = Moment::of(NEW_YEAR.saturating_add(after))?;
-    let command = command(alloc, wish)?;
-    let entry = match token(alloc, wish)? {
-        None => Entry {
-            moment,
-            token: None,
-            command,
-        },
-        Some(token) => {
-            if !command.takes_token() {
-                return Err(Fail::new("it may not carry a token"));
-            }
+fn spelled(rt: &impl Abort, alloc: Global, after: u64, wish: Wish<'_>) -> Vec<u8> {
+    let moment = Moment::of(NEW_YEAR.saturating_add(after)).expect(rt, "a moment");
+    let command = command(rt, alloc, wish);
+    let bytes = match token_of(rt, alloc, wish) {
+        None => encoded(
+            alloc,
             Entry {
                 moment,
-                token: Some(token),
+                token: None,
                 command,
-            }
+            },
+        ),
+        Some(token) => {
+            assert!(rt; command.takes_token(), "it may not carry a token");
+            encoded(
+                alloc,
+                Entry {
+                    moment,
+                    token: Some(token),
+                    command,
+                },
+            )
         }
     };
-    Ok(encode(alloc, &entry)?)
+    bytes.expect(rt, "an entry")
 }
 
 // Adds the frame of an entry with these bytes, after an open gate.
-fn add(bytes: &mut Vec<u8>, spelling: &[u8]) -> Result<(), Fail> {
-    let Ok(size) = u32::try_from(spelling.len()) else {
-        return Err(Fail::new("too long"));
-    };
-    bytes.push(0xA5)?;
-    bytes.extend_from_slice(&size.to_be_bytes())?;
-    bytes.extend_from_slice(spelling)?;
-    Ok(())
+fn add(rt: &impl Abort, bytes: &mut Vec<u8>, spelling: &[u8]) {
+    let size = u32::try_from(spelling.len()).expect(rt, "a short entry");
+    bytes.push(0xA5).expect(rt, "memory");
+    bytes
+        .extend_from_slice(&size.to_be_bytes())
+        .expect(rt, "memory");
+    bytes.extend_from_slice(spelling).expect(rt, "memory");
 }
 
 // The journal of these commands, each this many milliseconds after New Year.
-fn journal(alloc: Global, wishes: &[(u64, Wish<'_>)]) -> Result<Vec<u8>, Fail> {
-    let mut bytes = Vec::new(alloc);
-    bytes.extend_from_slice(&HEAD)?;
+fn journal(rt: &impl Abort, alloc: Global, wishes: &[(u64, Wish<'_>)]) -> Vec<u8> {
+    let mut bytes = HEAD.to_vec(alloc).expect(rt, "memory");
     for (after, wish) in wishes {
-        let spelling = spelled(alloc, *after, *wish)?;
-        add(&mut bytes, &spelling)?;
+        add(rt, &mut bytes, &spelled(rt, alloc, *after, *wish));
     }
-    bytes.push(0)?;
-    Ok(bytes)
+    bytes.push(0).expect(rt, "memory");
+    bytes
 }
 
-// Whether the table of these commands' journal is the header and this text, for any number of workers.
-fn is_table(
-    rt: &(impl Abort + Threads + Sync),
-    alloc: Global,
-    wishes: &[(u64, Wish<'_>)],
-    text: &str,
-) -> Result<(), Fail> {
-    let bytes = journal(alloc, wishes)?;
-    let wanted = format!(in alloc; "{HEADER}{text}")?;
-    for workers in &[1u32, 2, 4, 64] {
-        let found = explained(rt, alloc, &bytes, *workers)?;
-        assert_eq!(rt;
-            found.as_slice(),
-            wanted.as_bytes(),
-            "{wishes:?} by {workers} workers"
-        );
-    }
-    Ok(())
-}
-
-// A disk with a journal of these bytes, of which this call fails; the first one writes them.
-fn disk_of(alloc: Global, bytes: &[u8], failing: u64) -> Result<MemoryDisk, Fail> {
-    let mut disk = MemoryDisk::new(alloc, vec![in alloc; failing]?);
-    disk.write_at(FileNo::Journal, 0, bytes)?;
-    Ok(disk)
+// The table with these lines.
+fn table(rt: &impl Abort, alloc: Global, lines: &str) -> String {
+    let mut table = String::from_str(alloc, HEADER).expect(rt, "memory");
+    table.push_str(lines).expect(rt, "memory");
+    table
 }
 
 // The table of a journal, made by this many workers, from 1 to 64.
 fn explained(
-    rt: &(impl Threads + Sync),
+    rt: &(impl Abort + Threads + Sync),
     alloc: Global,
     bytes: &[u8],
     workers: u32,
-) -> Result<Vec<u8>, Fail> {
-    let mut disk = disk_of(alloc, bytes, 0)?;
-    Ok(explain(rt, alloc, &mut disk, workers.clamp(1, 64))?)
+) -> Vec<u8> {
+    let mut disk = disk_with(rt, alloc, bytes, &[]);
+    explain(rt, alloc, &mut disk, workers.clamp(1, 64)).expect(rt, "a table")
 }
 
 // Commands, each this many milliseconds after New Year, and the lines of the table.
@@ -365,23 +345,38 @@ const TABLES: &[Row] = &[
     ),
 ];
 
+// The table of these commands' journal is the same for any number of workers.
 #[test]
-fn tables(rt: HostRuntime) -> Result<(), Fail> {
-    for (wishes, text) in TABLES {
-        is_table(&rt, rt.alloc(), *wishes, *text)?;
+fn tables(rt: HostRuntime) {
+    let alloc = rt.alloc();
+    for (index, (wishes, lines)) in TABLES.iter().enumerate() {
+        let bytes = journal(&rt, alloc, *wishes);
+        let wanted = table(&rt, alloc, *lines);
+        for workers in &[1u32, 2, 4, 64] {
+            let found = explained(&rt, alloc, &bytes, *workers);
+            equal_bytes(&rt, &(index, *workers), &found, wanted.as_bytes());
+        }
     }
-    Ok(())
 }
 
-// The fault of a journal, on a disk of which a call fails.
+// The fault of a journal, on a disk of which these calls fail.
 fn fault_of(
-    rt: &(impl Threads + Sync),
+    rt: &(impl Abort + Threads + Sync),
     alloc: Global,
     bytes: &[u8],
-    failing: u64,
-) -> Result<Option<OpenFault>, Fail> {
-    let mut disk = disk_of(alloc, bytes, failing)?;
-    Ok(explain(rt, alloc, &mut disk, 4).err())
+    failing: &[u64],
+) -> Option<OpenFault> {
+    let mut disk = disk_with(rt, alloc, bytes, failing);
+    explain(rt, alloc, &mut disk, 4).err()
+}
+
+// The fault of the journal of these commands, the last of which the office does not accept.
+fn refused(
+    rt: &(impl Abort + Threads + Sync),
+    alloc: Global,
+    wishes: &[(u64, Wish<'_>)],
+) -> Option<OpenFault> {
+    fault_of(rt, alloc, &journal(rt, alloc, wishes), &[])
 }
 
 // Two commands, the second of which the office does not accept, and the gate of its entry.
@@ -413,24 +408,27 @@ const FAILED: &[(u64, Option<OpenFault>)] = &[
     (5, None),
 ];
 
+// Bytes that are no journal, and their fault.
+const NO_JOURNALS: &[(&[u8], Option<OpenFault>)] = &[
+    (&[], Some(OpenFault::NotMade)),
+    (b"another file of another kind", Some(OpenFault::Foreign)),
+];
+
+const TWO: &[(u64, Wish<'static>)] = &[(0, Wish::Make("logs")), (0, Wish::Make("barn"))];
+
 #[test]
-fn faults(rt: HostRuntime) -> Result<(), Fail> {
+fn faults(rt: HostRuntime) {
     let alloc = rt.alloc();
-    assert_eq!(rt; fault_of(&rt, alloc, &[], 0)?, Some(OpenFault::NotMade));
-    let other = b"another file of another kind";
-    assert_eq!(rt; fault_of(&rt, alloc, other, 0)?, Some(OpenFault::Foreign));
-    for (wishes, offset) in REFUSED {
-        let bytes = journal(alloc, *wishes)?;
+    for (bytes, fault) in NO_JOURNALS {
+        equal(&rt, bytes, &fault_of(&rt, alloc, *bytes, &[]), fault);
+    }
+    for (index, (wishes, offset)) in REFUSED.iter().enumerate() {
         let damaged = Some(OpenFault::Damaged { offset: *offset });
-        assert_eq!(rt; fault_of(&rt, alloc, &bytes, 0)?, damaged, "{wishes:?}");
+        equal(&rt, &index, &refused(&rt, alloc, *wishes), &damaged);
     }
-    let two = journal(alloc, &[(0, Wish::Make("logs")), (0, Wish::Make("barn"))])?;
+    let two = journal(&rt, alloc, TWO);
     for (failing, fault) in FAILED {
-        assert_eq!(rt;
-            fault_of(&rt, alloc, &two, *failing)?,
-            *fault,
-            "call {failing}"
-        );
+        let found = fault_of(&rt, alloc, &two, &[*failing]);
+        equal(&rt, failing, &found, fault);
     }
-    Ok(())
 }

@@ -1,16 +1,16 @@
 ghost use Rattle.std.specs.Prelude.{◌≡◌};
 ghost use Rattle.plain_office.specs.Run.{is_not_before};
 
+use crate::given::{bucket, equal, moment};
 use class_rules::Class;
 use moments::{Moment, Month};
-use office_base::{BucketName, Key, Size, Tags, VersionId};
+use office_base::{Key, Size, Tags, VersionId};
 use office_machine::Office;
 use office_types::{Ask, ClassMeters, Command, Query, Refusal, Reply, Token, What};
 use rules_json::read_rules;
 use std::alloc::Global;
 use std::marker::Model;
 use std::process::Abort;
-use std::test::Fail;
 
 // 2024-01-01 00:00 UTC, and the milliseconds of a day.
 const NEW_YEAR: u64 = 1_704_067_200_000;
@@ -18,7 +18,7 @@ const NEW_YEAR: u64 = 1_704_067_200_000;
 const DAY: u64 = 86_400_000;
 
 // What an office is asked about a bucket with this name.
-#[derive(Clone, Copy, Debug)]
+#[derive(Clone, Copy)]
 enum Wish<'a> {
     Make(&'a str),
     // A put under this key, of this many bytes, with this many tags.
@@ -56,13 +56,6 @@ enum Heard {
     Other,
 }
 
-fn month_of(year: u16, number: u8) -> Result<Month, Fail> {
-    match Month::of(year, number) {
-        Some(month) => Ok(month),
-        None => Err(Fail::new("no month")),
-    }
-}
-
 // An office after a few commands.
 #[derive(Drop)]
 struct Tried {
@@ -81,42 +74,68 @@ impl Model for Tried {
     ghost invariant = { λ t. t.office.records.accepted ≤ t.asked };
 }
 
+// A name with a number at its end.
+fn numbered(rt: &impl Abort, alloc: Global, name: &str, number: u64) -> String {
+    format!(in alloc; "{name}-{number}").expect(rt, "memory")
+}
+
 // This many tags, with different keys.
-fn tags(alloc: Global, number: u64) -> Result<Tags, Fail> {
+fn tags(rt: &impl Abort, alloc: Global, number: u64) -> Tags {
     let mut pairs = Vec::new(alloc);
     for n in 0..number {
-        pairs.push((
-            format!(in alloc; "key-{n}")?,
-            String::from_str(alloc, "value")?,
-        ))?;
+        let key = numbered(rt, alloc, "key", n);
+        let value = String::from_str(alloc, "value").expect(rt, "memory");
+        pairs.push((key, value)).expect(rt, "memory");
     }
-    Ok(Tags::read(alloc, pairs)?)
+    Tags::read(alloc, pairs).expect(rt, "tags")
+}
+
+fn put(
+    rt: &impl Abort,
+    alloc: Global,
+    name: &str,
+    key: &str,
+    size: Size,
+    class: Class,
+    number: u64,
+) -> Command {
+    Command::Put {
+        bucket: bucket(rt, alloc, name),
+        key: Key::read(alloc, key.as_bytes()).expect(rt, "a key"),
+        size,
+        class,
+        tags: tags(rt, alloc, number),
+    }
 }
 
 // The ask for a wish.
-fn asked(alloc: Global, wish: Wish<'_>) -> Result<Ask, Fail> {
+fn asked(rt: &impl Abort, alloc: Global, wish: Wish<'_>) -> Ask {
     match wish {
-        Wish::Make(name) => Ok(Ask::Command(Command::CreateBucket {
-            bucket: BucketName::read(alloc, name)?,
-        })),
+        Wish::Make(name) => Ask::Command(Command::CreateBucket {
+            bucket: bucket(rt, alloc, name),
+        }),
         Wish::Put(name, key, size, class, number) => {
-            let size = Size::of(size)?;
-            let tags = tags(alloc, number)?;
-            let key = Key::read(alloc, key.as_bytes())?;
-            let bucket = BucketName::read(alloc, name)?;
-            Ok(Ask::Command(Command::Put {
-                bucket,
-                key,
-                size,
-                class,
-                tags,
-            }))
+            let size = Size::of(size).expect(rt, "a size");
+            Ask::Command(put(rt, alloc, name, key, size, class, number))
         }
-        Wish::Show(name) => Ok(Ask::Query(Query::Bucket(BucketName::read(alloc, name)?))),
+        Wish::Show(name) => Ask::Query(Query::Bucket(bucket(rt, alloc, name))),
         Wish::Meters(name, year, number) => {
-            let month = month_of(year, number)?;
-            Ok(Ask::Query(Query::Meters(BucketName::read(alloc, name)?, month)))
+            let month = Month::of(year, number).expect(rt, "a month");
+            Ask::Query(Query::Meters(bucket(rt, alloc, name), month))
         }
+    }
+}
+
+fn read_token(rt: &impl Abort, alloc: Global, text: &str) -> Token {
+    let read = Token::read(alloc, text.as_bytes()).expect(rt, "memory");
+    read.expect(rt, "a token")
+}
+
+// A command with a token.
+fn once(rt: &impl Abort, token: Token, ask: Ask) -> Ask {
+    match ask {
+        Ask::Command(command) => Ask::Once { token, command },
+        _ => panic!(rt; "no command"),
     }
 }
 
@@ -129,20 +148,25 @@ impl Tried {
     }
 
     // Does what is wished, and returns the answer.
-    fn turn(
-        &mut self,
-        rt: &impl Abort,
-        alloc: Global,
-        ms: u64,
-        wish: Wish<'_>,
-    ) -> Result<Heard, Fail> {
-        let moment = Moment::of(ms)?;
-        let said = match asked(alloc, wish)? {
-            Ask::Command(command) => self.ask(rt, moment, &command),
-            Ask::Query(query) => self.show(rt, moment, &query),
-            Ask::Once { .. } => return Err(Fail::new("no token")),
-        };
-        Ok(answer_of(&said, ms, wish))
+    fn turn(&mut self, rt: &impl Abort, alloc: Global, ms: u64, wish: Wish<'_>) -> Heard {
+        self.heard(rt, ms, asked(rt, alloc, wish), wish)
+    }
+
+    // What is heard if this is asked for a wish.
+    fn heard(&mut self, rt: &impl Abort, ms: u64, ask: Ask, wish: Wish<'_>) -> Heard {
+        let said = self.said(rt, moment(rt, ms), &ask);
+        drop(ask);
+        let heard = answer_of(&said, ms, wish);
+        drop(said);
+        heard
+    }
+
+    fn said(&mut self, rt: &impl Abort, moment: Moment, ask: &Ask) -> Result<Reply, Refusal> {
+        match ask {
+            Ask::Command(command) => self.ask(rt, moment, command),
+            Ask::Query(query) => self.show(rt, moment, query),
+            Ask::Once { token, command } => self.ask_once(rt, moment, token, command),
+        }
     }
 
     fn ask(
@@ -185,14 +209,10 @@ impl Tried {
         ms: u64,
         token: &str,
         wish: Wish<'_>,
-    ) -> Result<Heard, Fail> {
-        let moment = Moment::of(ms)?;
-        let token = Token::read(alloc, token.as_bytes())?.ok_or("no token")?;
-        let said = match asked(alloc, wish)? {
-            Ask::Command(command) => self.ask_once(rt, moment, &token, &command),
-            _ => return Err(Fail::new("no command")),
-        };
-        Ok(answer_of(&said, ms, wish))
+    ) -> Heard {
+        let token = read_token(rt, alloc, token);
+        let ask = once(rt, token, asked(rt, alloc, wish));
+        self.heard(rt, ms, ask, wish)
     }
 
     fn show(&self, rt: &impl Abort, moment: Moment, query: &Query) -> Result<Reply, Refusal> {
@@ -218,55 +238,65 @@ impl Tried {
     }
 }
 
+// What is heard at a moment, if it is an answer to the wish.
 fn answer_of(said: &Result<Reply, Refusal>, ms: u64, wish: Wish<'_>) -> Heard {
-    let reply = match said {
-        Ok(reply) => reply,
-        Err(refusal) => return refused(refusal),
-    };
-    let (what, is_so) = match (reply, wish) {
-        (Reply::BucketMade { bucket }, Wish::Make(name)) => (Heard::Made, bucket.text() == name),
-        (Reply::Stored { moment, version }, Wish::Put(..)) => {
-            (
-                if moment.ms() == ms {
-                    Heard::Stored
-                } else {
-                    Heard::StoredAt(moment.ms())
-                },
-                *version == VersionId::Null,
-            )
+    match said {
+        Ok(reply) => {
+            if is_about(reply, wish) {
+                told(reply, ms)
+            } else {
+                Heard::Other
+            }
         }
-        (
+        Err(refusal) => refused(refusal),
+    }
+}
+
+// Whether a reply has the names of the wish and nothing that was not wished.
+fn is_about(reply: &Reply, wish: Wish<'_>) -> bool {
+    match wish {
+        Wish::Make(name) => match reply {
+            Reply::BucketMade { bucket } => bucket.text() == name,
+            _ => false,
+        },
+        Wish::Put(..) => match reply {
+            Reply::Stored { version, .. } => *version == VersionId::Null,
+            _ => false,
+        },
+        Wish::Show(name) => match reply {
             Reply::BucketShown {
                 bucket,
-                versions,
                 rules,
                 uploads,
                 ..
-            },
-            Wish::Show(name),
-        ) => {
-            (
-                Heard::Shown(*versions),
-                bucket.text() == name && *rules == 0 && *uploads == 0,
-            )
-        }
-        (
-            Reply::MetersShown {
-                bucket,
-                month,
-                classes,
-            },
-            Wish::Meters(name, year, number),
-        ) => {
-            let is_month = month.year() == year && month.month() == number;
-            (
-                metered(classes.as_slice()),
-                is_month && bucket.text() == name,
-            )
-        }
-        _ => (Heard::Other, true),
-    };
-    if is_so { what } else { Heard::Other }
+            } => bucket.text() == name && *rules == 0 && *uploads == 0,
+            _ => false,
+        },
+        Wish::Meters(name, year, number) => match reply {
+            Reply::MetersShown { bucket, month, .. } => {
+                bucket.text() == name && month.year() == year && month.month() == number
+            }
+            _ => false,
+        },
+    }
+}
+
+fn told(reply: &Reply, ms: u64) -> Heard {
+    match reply {
+        Reply::BucketMade { .. } => Heard::Made,
+        Reply::Stored { moment, .. } => stored(moment.ms(), ms),
+        Reply::BucketShown { versions, .. } => Heard::Shown(*versions),
+        Reply::MetersShown { classes, .. } => metered(classes.as_slice()),
+        _ => Heard::Other,
+    }
+}
+
+fn stored(at: u64, ms: u64) -> Heard {
+    if at == ms {
+        Heard::Stored
+    } else {
+        Heard::StoredAt(at)
+    }
 }
 
 fn refused(refusal: &Refusal) -> Heard {
@@ -322,14 +352,14 @@ impl Used {
 // The moment, the wish, the answer, and the moment of the last accepted command afterwards.
 type Row = (u64, Wish<'static>, Heard, u64);
 
-fn assert_rows(rt: &impl Abort, alloc: Global, rows: &[Row]) -> Result<(), Fail> {
+fn assert_rows(rt: &impl Abort, alloc: Global, table: usize, rows: &[Row]) {
     let mut tried = Tried::new(alloc);
-    assert_eq!(rt; tried.last_ms(), None);
-    for (ms, wish, answer, last) in rows {
-        let found = (tried.turn(rt, alloc, *ms, *wish)?, tried.last_ms());
-        assert_eq!(rt; found, (*answer, Some(*last)), "{wish:?} at {ms}");
+    equal(rt, &table, &tried.last_ms(), &None);
+    for (index, (ms, wish, answer, last)) in rows.iter().enumerate() {
+        let found = (tried.turn(rt, alloc, *ms, *wish), tried.last_ms());
+        equal(rt, &(table, index), &found, &(*answer, Some(*last)));
     }
-    Ok(())
+    drop(tried);
 }
 
 const MADE: Heard = Heard::Made;
@@ -571,11 +601,10 @@ const OFFICES: &[&[Row]] = &[
 ];
 
 #[test]
-fn commands_and_queries(rt: HostRuntime) -> Result<(), Fail> {
-    for rows in OFFICES {
-        assert_rows(&rt, rt.alloc(), *rows)?;
+fn commands_and_queries(rt: HostRuntime) {
+    for (table, rows) in OFFICES.iter().enumerate() {
+        assert_rows(&rt, rt.alloc(), table, *rows);
     }
-    Ok(())
 }
 
 // The moment, the token, the wish, the answer, and the moment of the last accepted command afterwards.
@@ -635,111 +664,134 @@ const ONCE: &[OnceRow] = &[
 ];
 
 #[test]
-fn a_command_with_a_token_acts_once(rt: HostRuntime) -> Result<(), Fail> {
+fn a_command_with_a_token_acts_once(rt: HostRuntime) {
     let alloc = rt.alloc();
     let mut tried = Tried::new(alloc);
     for (index, (ms, token, wish, answer, last)) in ONCE.iter().enumerate() {
-        let heard = tried.turn_once(&rt, alloc, *ms, *token, *wish)?;
+        let heard = tried.turn_once(&rt, alloc, *ms, *token, *wish);
         let found = (heard, tried.last_ms());
-        assert_eq!(rt; found, (*answer, Some(*last)), "{index}");
+        equal(&rt, &index, &found, &(*answer, Some(*last)));
     }
-    Ok(())
+    drop(tried);
 }
 
-fn fill_the_replies(rt: &impl Abort, alloc: Global, tried: &mut Tried) -> Result<(), Fail> {
+fn fill_the_replies(rt: &impl Abort, alloc: Global, tried: &mut Tried) {
     let put = Wish::Put("logs", "a", 1, STANDARD, 0);
     for number in 0u64..9_999 {
-        let token = format!(in alloc; "t{number}")?;
-        let heard = tried.turn_once(rt, alloc, 6, &token, put)?;
-        assert_eq!(rt; heard, Heard::Stored);
+        let token = numbered(rt, alloc, "t", number);
+        let heard = tried.turn_once(rt, alloc, 6, &token, put);
+        equal(rt, &number, &heard, &Heard::Stored);
     }
-    Ok(())
 }
 
-// Whether a command with a token gets this answer.
-fn is_heard(
-    rt: &impl Abort,
-    alloc: Global,
-    tried: &mut Tried,
-    (ms, token, wish): (u64, &str, Wish<'_>),
-    wanted: Heard,
-) -> Result<(), Fail> {
-    let heard = tried.turn_once(rt, alloc, ms, token, wish)?;
-    assert_eq!(rt; heard, wanted, "{token} {ms}");
-    Ok(())
-}
+const MAKE: Wish<'static> = Wish::Make("logs");
 
-fn keep_ten_thousand(rt: &impl Abort, alloc: Global, tried: &mut Tried) -> Result<(), Fail> {
-    let (made, put) = (Wish::Make("logs"), Wish::Put("logs", "a", 1, STANDARD, 0));
-    is_heard(rt, alloc, tried, (5, "first", made), MADE)?;
-    fill_the_replies(rt, alloc, tried)?;
-    is_heard(rt, alloc, tried, (7, "first", made), MADE)?;
-    is_heard(rt, alloc, tried, (8, "t9999", put), Heard::Stored)?;
-    is_heard(rt, alloc, tried, (9, "first", made), EXISTS)?;
-    is_heard(rt, alloc, tried, (9, "t0", put), Heard::StoredAt(6))
-}
+const PUT: Wish<'static> = Wish::Put("logs", "a", 1, STANDARD, 0);
+
+// The answers after 9,999 further commands with tokens: the first reply is kept until one more is accepted.
+const LAST: &[(u64, &str, Wish<'static>, Heard)] = &[
+    (7, "first", MAKE, MADE),
+    (8, "t-9999", PUT, Heard::Stored),
+    (9, "first", MAKE, EXISTS),
+    (9, "t-0", PUT, Heard::StoredAt(6)),
+];
 
 // A reply is kept until 10,000 commands with other tokens were accepted.
 #[test]
-fn ten_thousand_replies_are_kept(rt: HostRuntime) -> Result<(), Fail> {
-    let mut tried = Tried::new(rt.alloc());
-    keep_ten_thousand(&rt, rt.alloc(), &mut tried)
+fn ten_thousand_replies_are_kept(rt: HostRuntime) {
+    let alloc = rt.alloc();
+    let mut tried = Tried::new(alloc);
+    let first = tried.turn_once(&rt, alloc, 5, "first", MAKE);
+    equal(&rt, &"first", &first, &MADE);
+    fill_the_replies(&rt, alloc, &mut tried);
+    for (ms, token, wish, wanted) in LAST {
+        let heard = tried.turn_once(&rt, alloc, *ms, *token, *wish);
+        equal(&rt, &(*token, *ms), &heard, wanted);
+    }
+    drop(tried);
 }
 
-fn make_a_thousand(rt: &impl Abort, alloc: Global, tried: &mut Tried) -> Result<(), Fail> {
-    for number in 0u64..2_000 {
-        let name = format!(in alloc; "bucket-{}", 1_000 - number % 1_000)?;
-        let wanted = if number < 1_000 { MADE } else { EXISTS };
-        let heard = tried.turn(rt, alloc, 100, Wish::Make(&name))?;
-        assert_eq!(rt; heard, wanted, "{name}");
-    }
-    let heard = tried.turn(rt, alloc, 101, Wish::Make("one-more"))?;
-    assert_eq!(rt; heard, Heard::Full(What::Buckets, 1_000));
-    Ok(())
+// A bucket is made under one of a thousand names.
+fn make_numbered(rt: &impl Abort, alloc: Global, tried: &mut Tried, number: u64) -> Heard {
+    let name = numbered(rt, alloc, "bucket", number);
+    tried.turn(rt, alloc, 100, Wish::Make(&name))
 }
 
 #[test]
-fn a_thousand_buckets(rt: HostRuntime) -> Result<(), Fail> {
-    let mut tried = Tried::new(rt.alloc());
-    make_a_thousand(&rt, rt.alloc(), &mut tried)?;
-    assert_eq!(rt; tried.last_ms(), Some(100));
-    Ok(())
+fn a_thousand_buckets(rt: HostRuntime) {
+    let alloc = rt.alloc();
+    let mut tried = Tried::new(alloc);
+    for number in 0u64..2_000 {
+        let heard = make_numbered(&rt, alloc, &mut tried, 1_000 - number % 1_000);
+        let wanted = if number < 1_000 { MADE } else { EXISTS };
+        equal(&rt, &number, &heard, &wanted);
+    }
+    let heard = tried.turn(&rt, alloc, 101, Wish::Make("one-more"));
+    equal(&rt, &"one more", &heard, &Heard::Full(What::Buckets, 1_000));
+    equal(&rt, &"the last", &tried.last_ms(), &Some(100));
+    drop(tried);
 }
 
 // Objects move to STANDARD_IA 30 days after they were created.
 const ARCHIVING: &str = "{\"Rules\":[{\"ID\":\"archive\",\"Filter\":{\"Prefix\":\"\"},\
     \"Status\":\"Enabled\",\"Transitions\":[{\"Days\":30,\"StorageClass\":\"STANDARD_IA\"}]}]}";
 
-fn archiving(alloc: Global) -> Result<Command, Fail> {
-    let bucket = BucketName::read(alloc, "logs")?;
+fn archiving(rt: &impl Abort, alloc: Global) -> Command {
     match read_rules(alloc, ARCHIVING.as_bytes()) {
-        Ok(rules) => Ok(Command::SetRules { bucket, rules }),
-        Err(_) => Err(Fail::new("no rules")),
+        Ok(rules) => Command::SetRules {
+            bucket: bucket(rt, alloc, "logs"),
+            rules,
+        },
+        Err(_) => panic!(rt; "no rules"),
     }
+}
+
+fn queued(rt: &impl Abort, alloc: Global, tried: &Tried, name: &str) -> Option<u64> {
+    tried.office.queued(&bucket(rt, alloc, name))
+}
+
+// The moment of the puts: 2023-12-10 09:00 UTC.
+const AT: u64 = 1_702_198_800_000;
+
+fn put_numbered(rt: &impl Abort, alloc: Global, tried: &mut Tried, number: u64) -> Heard {
+    let key = numbered(rt, alloc, "object", number);
+    let wish = Wish::Put("logs", &key, 1_000_000, STANDARD, 0);
+    tried.turn(rt, alloc, AT, wish)
+}
+
+// Whether the rules are set.
+fn set_rules(rt: &impl Abort, alloc: Global, tried: &mut Tried) -> bool {
+    let command = archiving(rt, alloc);
+    let said = tried.ask(rt, moment(rt, AT), &command);
+    drop(command);
+    let is_set = said.is_ok();
+    drop(said);
+    is_set
 }
 
 // A thousand objects wait for the rule, whenever each of them is due.
 #[test]
-fn a_thousand_queued(rt: HostRuntime) -> Result<(), Fail> {
+fn a_thousand_queued(rt: HostRuntime) {
     let alloc = rt.alloc();
-    let put = 1_702_198_800_000;
     let mut tried = Tried::new(alloc);
-    assert_eq!(rt; tried.turn(&rt, alloc, put, Wish::Make("logs"))?, MADE);
-    let logs = BucketName::read(alloc, "logs")?;
-    assert!(rt; tried.ask(&rt, Moment::of(put)?, &archiving(alloc)?).is_ok());
-    assert_eq!(rt; tried.office.queued(&logs), Some(0));
+    equal(&rt, &"made", &tried.turn(&rt, alloc, AT, MAKE), &MADE);
+    assert!(rt; set_rules(&rt, alloc, &mut tried));
+    equal(
+        &rt,
+        &"before",
+        &queued(&rt, alloc, &tried, "logs"),
+        &Some(0),
+    );
     for number in 0u64..1_000 {
-        let key = format!(in alloc; "object-{number}")?;
-        let said = tried.turn(
-            &rt,
-            alloc,
-            put,
-            Wish::Put("logs", &key, 1_000_000, STANDARD, 0),
-        )?;
-        assert_eq!(rt; said, Heard::Stored, "{key}");
+        let heard = put_numbered(&rt, alloc, &mut tried, number);
+        equal(&rt, &number, &heard, &Heard::Stored);
     }
-    assert_eq!(rt; tried.office.queued(&logs), Some(1_000));
-    let others = BucketName::read(alloc, "others")?;
-    assert_eq!(rt; tried.office.queued(&others), None);
-    Ok(())
+    equal(
+        &rt,
+        &"after",
+        &queued(&rt, alloc, &tried, "logs"),
+        &Some(1_000),
+    );
+    equal(&rt, &"others", &queued(&rt, alloc, &tried, "others"), &None);
+    drop(tried);
 }

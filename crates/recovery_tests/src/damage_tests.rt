@@ -1,11 +1,11 @@
 // Damaged journals, with checkpoints whose positions are before, at and after the damage.
-use crate::parts::{CLOSED, DATA, LENGTH, LOGS, MAKE, MARK, MOMENT, OPEN, REST, joined};
+use crate::parts::{CLOSED, DATA, LENGTH, LOGS, MAKE, MARK, MOMENT, OPEN, REST, equal, joined};
 use crate::sessions::{Ended, FINISHED, Heard, Turn, Wish, session};
 use disk_core::{Disk, FileNo, MemoryDisk};
 use meter_journal::OpenFault;
 use std::alloc::Global;
+use std::fmt::Debug;
 use std::process::Abort;
-use std::test::Fail;
 
 // A part of a file.
 type Part = &'static [u8];
@@ -202,65 +202,76 @@ const CUTS: &[(Slots, usize, usize, Found)] = &[
     ((AT_70, AT_50), 71, 71, WHOLE),
 ];
 
+// A disk with this journal and these slots.
+fn disk_of(rt: &impl Abort, alloc: Global, journal: &[u8], slots: &Slots) -> MemoryDisk {
+    let (first, second) = (joined(rt, alloc, slots.0), joined(rt, alloc, slots.1));
+    let mut disk = MemoryDisk::new(alloc, Vec::new(alloc));
+    disk.write_at(FileNo::Journal, 0, journal)
+        .expect(rt, "the journal is written");
+    disk.write_at(FileNo::Slot0, 0, &first)
+        .expect(rt, "the first slot is written");
+    disk.write_at(FileNo::Slot1, 0, &second)
+        .expect(rt, "the second slot is written");
+    disk
+}
+
 // Opens this journal with these slots.
 fn assert_found(
     rt: &impl Abort,
     alloc: Global,
+    row: &impl Debug,
     journal: &[u8],
     slots: &Slots,
     found: &Found,
-) -> Result<(), Fail> {
-    let (first, second) = slots;
-    let (ended, turns) = found;
-    let mut disk = MemoryDisk::new(alloc, Vec::new(alloc));
-    disk.write_at(FileNo::Journal, 0, journal)?;
-    disk.write_at(FileNo::Slot0, 0, &joined(alloc, *first)?)?;
-    disk.write_at(FileNo::Slot1, 0, &joined(alloc, *second)?)?;
-    let (_, end) = session(rt, alloc, disk, &[*turns])?;
-    assert_eq!(rt; end, *ended);
-    Ok(())
+) {
+    let disk = disk_of(rt, alloc, journal, slots);
+    let (disk, ended) = session(rt, alloc, row, disk, &[found.1]);
+    drop(disk);
+    equal(rt, row, &ended, &found.0);
 }
 
 // The journal with this byte changed.
-fn journal_with(alloc: Global, at: usize, value: u8) -> Result<Vec<u8>, Fail> {
-    let mut journal = joined(alloc, JOURNAL)?;
+fn journal_with(rt: &impl Abort, alloc: Global, at: usize, value: u8) -> Vec<u8> {
+    let mut journal = joined(rt, alloc, JOURNAL);
     if let Some(byte) = journal.get_mut(at) {
         *byte = value;
     }
-    Ok(journal)
+    journal
 }
 
-fn assert_byte(rt: &impl Abort, alloc: Global, at: usize, bytes: &Bytes) -> Result<(), Fail> {
+fn assert_byte(rt: &impl Abort, alloc: Global, at: usize, bytes: &Bytes) {
     let (_, _, value, read, unread) = bytes;
-    let journal = journal_with(alloc, at, *value)?;
-    for slots in BEFORE_IT {
-        assert_found(rt, alloc, &journal, slots, read)?;
+    let journal = journal_with(rt, alloc, at, *value);
+    for (index, slots) in BEFORE_IT.iter().enumerate() {
+        assert_found(rt, alloc, &(at, *value, index), &journal, slots, read);
     }
-    for slots in BEHIND_IT {
-        assert_found(rt, alloc, &journal, slots, unread)?;
+    for (index, slots) in BEHIND_IT.iter().enumerate() {
+        assert_found(rt, alloc, &(at, *value, index), &journal, slots, unread);
     }
-    Ok(())
 }
 
 #[test]
-fn a_changed_byte_is_found_where_it_is_read(rt: HostRuntime) -> Result<(), Fail> {
+fn a_changed_byte_is_found_where_it_is_read(rt: HostRuntime) {
     for bytes in BYTES {
         for at in bytes.0..=bytes.1 {
-            assert_byte(&rt, rt.alloc(), at, bytes)?;
+            assert_byte(&rt, rt.alloc(), at, bytes);
         }
     }
-    Ok(())
+}
+
+fn cut_journal(rt: &impl Abort, alloc: Global, length: usize) -> Vec<u8> {
+    let mut journal = joined(rt, alloc, JOURNAL);
+    journal.truncate(length);
+    journal
 }
 
 #[test]
-fn a_journal_that_is_cut_is_damaged_at_the_gate_that_is_read(rt: HostRuntime) -> Result<(), Fail> {
+fn a_journal_that_is_cut_is_damaged_at_the_gate_that_is_read(rt: HostRuntime) {
     let alloc = rt.alloc();
-    for (slots, from, to, found) in CUTS {
+    for (index, (slots, from, to, found)) in CUTS.iter().enumerate() {
         for length in *from..=*to {
-            let mut journal = joined(alloc, JOURNAL)?;
-            journal.truncate(length);
-            assert_found(&rt, alloc, &journal, slots, found)?;
+            let journal = cut_journal(&rt, alloc, length);
+            assert_found(&rt, alloc, &(index, length), &journal, slots, found);
         }
     }
-    Ok(())
 }

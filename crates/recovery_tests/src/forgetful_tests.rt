@@ -1,15 +1,16 @@
 // Lost journals: what a desk finds if the disk did not keep what it synced.
-use crate::parts::{CLOSED, DATA, LENGTH, LOGS, MAKE, MARK, MOMENT, OPEN, joined};
-use crate::sessions::{Ended, FINISHED, Heard, J0, Said, Turn, Wish, session};
+use crate::parts::{
+    CLOSED, DATA, LENGTH, LOGS, MAKE, MARK, MOMENT, OPEN, equal, equal_bytes, joined,
+};
+use crate::sessions::{Ended, FINISHED, Heard, J0, Said, Turn, Wish, finished, session};
 use desk_core::DeskFault;
 use disk_core::{ForgetfulDisk, Loss};
 use meter_journal::{OpenFault, create, read_all};
 use std::alloc::Global;
 use std::process::Abort;
-use std::test::Fail;
 
 // What a failed sync loses: the bytes from an offset on, or bytes that others replace.
-#[derive(Clone, Copy, Debug)]
+#[derive(Clone, Copy)]
 enum Lost {
     Cut(u64),
     Over(u64, &'static [u8]),
@@ -17,7 +18,7 @@ enum Lost {
 
 // A journal with a failed sync. Syncs are counted from 1: five make the file, and one opens it. Each command then has
 // two: the first for its frame, whose gate is still closed, and the second for the gate.
-#[derive(Clone, Copy, Debug)]
+#[derive(Clone, Copy)]
 struct Row {
     failing: u64,
     lost: Lost,
@@ -297,52 +298,44 @@ const ROWS: &[Row] = &[
     },
 ];
 
-// A disk whose journal is made, and has no entries.
-fn disk_of(alloc: Global, row: &Row) -> Result<ForgetfulDisk, Fail> {
-    let loss = match row.lost {
+fn loss_of(rt: &impl Abort, alloc: Global, lost: Lost) -> Loss {
+    match lost {
         Lost::Cut(to) => Loss::Cut { to },
         Lost::Over(at, bytes) => Loss::Over {
             at,
-            bytes: bytes.to_vec(alloc)?,
+            bytes: bytes.to_vec(alloc).expect(rt, "memory"),
         },
-    };
-    let mut disk = ForgetfulDisk::new(alloc, row.failing, loss);
-    create(&mut disk)?;
-    Ok(disk)
+    }
 }
 
-fn assert_left(
-    rt: &impl Abort,
-    alloc: Global,
-    disk: &mut ForgetfulDisk,
-    row: &Row,
-) -> Result<(), Fail> {
-    let left = joined(alloc, row.left)?;
-    let found = read_all(alloc, disk)?;
-    assert!(rt;
-        found.as_slice() == left.as_slice(),
-        "sync {}, {:?}",
-        row.failing,
-        row.lost
-    );
-    Ok(())
+// A disk whose journal is made, and has no entries.
+fn disk_of(rt: &impl Abort, alloc: Global, row: &Row) -> ForgetfulDisk {
+    let loss = loss_of(rt, alloc, row.lost);
+    let mut disk = ForgetfulDisk::new(alloc, row.failing, loss);
+    create(&mut disk).expect(rt, "a journal");
+    disk
+}
+
+fn assert_left(rt: &impl Abort, alloc: Global, index: usize, disk: &mut ForgetfulDisk, row: &Row) {
+    let left = joined(rt, alloc, row.left);
+    let found = read_all(alloc, disk).expect(rt, "the file");
+    equal_bytes(rt, &(index, row.failing), &found, &left);
 }
 
 // Checks a session over these turns, and then one over the file that it leaves.
-fn assert_row(rt: &impl Abort, alloc: Global, row: &Row, lists: &[&[Turn]]) -> Result<(), Fail> {
-    let (mut disk, ended) = session(rt, alloc, disk_of(alloc, row)?, lists)?;
-    assert_eq!(rt; ended, FINISHED, "sync {}, {:?}", row.failing, row.lost);
-    assert_left(rt, alloc, &mut disk, row)?;
-    let (mut disk, ended) = session(rt, alloc, disk, &[row.then])?;
-    assert_eq!(rt; ended, row.again, "sync {}, {:?}", row.failing, row.lost);
-    assert_left(rt, alloc, &mut disk, row)
+fn assert_row(rt: &impl Abort, alloc: Global, index: usize, row: &Row, lists: &[&[Turn]]) {
+    let disk = disk_of(rt, alloc, row);
+    let mut disk = finished(rt, alloc, &(index, row.failing), disk, lists);
+    assert_left(rt, alloc, index, &mut disk, row);
+    let (mut disk, ended) = session(rt, alloc, &(index, row.failing), disk, &[row.then]);
+    equal(rt, &(index, row.failing), &ended, &row.again);
+    assert_left(rt, alloc, index, &mut disk, row);
 }
 
 #[test]
-fn a_journal_that_was_lost_is_told_and_left_as_it_is(rt: HostRuntime) -> Result<(), Fail> {
-    for row in ROWS {
-        assert_row(&rt, rt.alloc(), row, &[row.turns])?;
-        assert_row(&rt, rt.alloc(), row, &[row.turns, row.then])?;
+fn a_journal_that_was_lost_is_told_and_left_as_it_is(rt: HostRuntime) {
+    for (index, row) in ROWS.iter().enumerate() {
+        assert_row(&rt, rt.alloc(), index, row, &[row.turns]);
+        assert_row(&rt, rt.alloc(), index, row, &[row.turns, row.then]);
     }
-    Ok(())
 }

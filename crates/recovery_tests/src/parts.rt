@@ -2,11 +2,15 @@
 use std::alloc::Global;
 use std::fmt::Debug;
 use std::process::Abort;
-use std::test::Fail;
 
 // Compares what a row gives with what it expects, and names the row.
 pub fn equal<T: PartialEq + Debug>(rt: &impl Abort, row: &impl Debug, found: &T, wanted: &T) {
     assert_eq!(rt; *found, *wanted, "{row:?}");
+}
+
+// The same for bytes.
+pub fn equal_bytes(rt: &impl Abort, row: &impl Debug, found: &[u8], wanted: &[u8]) {
+    assert!(rt; found == wanted, "{row:?}");
 }
 
 // A gate of the journal.
@@ -32,10 +36,10 @@ pub const DATA: &[u8] = &[0, 4, 0x64, 0x61, 0x74, 0x61];
 pub const REST: &[u8] = &[0, 4, 0x72, 0x65, 0x73, 0x74];
 
 // Puts parts together.
-pub fn joined(alloc: Global, parts: &[&[u8]]) -> Result<Vec<u8>, Fail> {
+pub fn joined(rt: &impl Abort, alloc: Global, parts: &[&[u8]]) -> Vec<u8> {
     let mut bytes = Vec::new(alloc);
     for part in parts {
-        bytes.extend_from_slice(*part)?;
+        bytes.extend_from_slice(*part).expect(rt, "memory");
     }
-    Ok(bytes)
+    bytes
 }

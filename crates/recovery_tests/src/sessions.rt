@@ -1,18 +1,19 @@
 // Sessions of a desk: asks and answers, and how the session ends.
-use desk_core::{Desk, DeskFault, ListClock, SaveFault};
+use crate::parts::equal;
+use desk_core::{Acked, Desk, DeskFault, ListClock, SaveFault};
 use disk_core::Disk;
 use meter_journal::OpenFault;
 use office_base::BucketName;
 use office_types::{Ask, Command, Query, Refusal, Reply};
 use std::alloc::Global;
+use std::fmt::Debug;
 use std::process::Abort;
-use std::test::Fail;
 
 // 2024-01-01 00:00 UTC, which the clock gives.
 pub const J0: u64 = 1_704_067_200_000;
 
 // What a desk is asked about a bucket with this name.
-#[derive(Clone, Copy, Debug)]
+#[derive(Clone, Copy)]
 pub enum Wish {
     Make(&'static str),
     Show(&'static str),
@@ -44,13 +45,16 @@ pub enum Ended {
 
 pub const FINISHED: Ended = Ended::Finished(Ok(()));
 
-fn asked(alloc: Global, wish: Wish) -> Result<Ask, Fail> {
+fn asked(rt: &impl Abort, alloc: Global, wish: Wish) -> Ask {
     match wish {
         Wish::Make(name) => {
-            let bucket = BucketName::read(alloc, name)?;
-            Ok(Ask::Command(Command::CreateBucket { bucket }))
+            let bucket = BucketName::read(alloc, name).expect(rt, "a name");
+            Ask::Command(Command::CreateBucket { bucket })
         }
-        Wish::Show(name) => Ok(Ask::Query(Query::Bucket(BucketName::read(alloc, name)?))),
+        Wish::Show(name) => {
+            let bucket = BucketName::read(alloc, name).expect(rt, "a name");
+            Ask::Query(Query::Bucket(bucket))
+        }
     }
 }
 
@@ -63,44 +67,84 @@ fn told_by(reply: &Result<Reply, Refusal>) -> Heard {
     }
 }
 
-// What the desk answers, and whether it is stale afterwards.
-fn answer<D: Disk + Drop>(desk: &mut Desk<D, ListClock>, ask: &Ask) -> (Said, bool) {
-    let said = match desk.submit(ask) {
-        Ok(acked) => Ok((told_by(acked.reply()), acked.position())),
-        Err(fault) => Err(fault),
-    };
-    (said, desk.stale())
+fn answer_of(acked: Acked) -> (Heard, u64) {
+    let heard = (told_by(acked.reply()), acked.position());
+    drop(acked);
+    heard
 }
 
-fn take_turns<D: Disk + Drop>(
+// What the desk answers.
+fn answer<D: Disk + Drop>(
     rt: &impl Abort,
     alloc: Global,
     desk: &mut Desk<D, ListClock>,
-    turns: &[Turn],
-) -> Result<(), Fail> {
-    for (wish, said, stale) in turns {
-        let found = answer(desk, &asked(alloc, *wish)?);
-        assert_eq!(rt; found, (*said, *stale), "{wish:?}");
+    wish: Wish,
+) -> Said {
+    let ask = asked(rt, alloc, wish);
+    let answer = desk.submit(&ask);
+    drop(ask);
+    match answer {
+        Ok(acked) => Ok(answer_of(acked)),
+        Err(fault) => Err(fault),
     }
-    Ok(())
+}
+
+fn assert_turns<D: Disk + Drop>(
+    rt: &impl Abort,
+    alloc: Global,
+    row: &impl Debug,
+    desk: &mut Desk<D, ListClock>,
+    turns: &[Turn],
+) {
+    for (index, (wish, said, stale)) in turns.iter().enumerate() {
+        let found = answer(rt, alloc, desk, *wish);
+        equal(rt, &(row, index), &(found, desk.stale()), &(*said, *stale));
+    }
+}
+
+// Takes the turns of these lists, and ends the session.
+fn taken<D: Disk + Drop>(
+    rt: &impl Abort,
+    alloc: Global,
+    row: &impl Debug,
+    mut desk: Desk<D, ListClock>,
+    lists: &[&[Turn]],
+) -> (D, Ended) {
+    for turns in lists {
+        assert_turns(rt, alloc, row, &mut desk, *turns);
+    }
+    let (disk, clock, saved) = desk.finish();
+    drop(clock);
+    (disk, Ended::Finished(saved))
 }
 
 // Opens a desk over a disk, takes the turns of these lists, and ends the session.
 pub fn session<D: Disk + Drop>(
     rt: &impl Abort,
     alloc: Global,
+    row: &impl Debug,
     disk: D,
     lists: &[&[Turn]],
-) -> Result<(D, Ended), Fail> {
-    let clock = ListClock::new(Vec::from_array(alloc, [J0])?);
-    match Desk::open(alloc, disk, clock, 1 << 45) {
-        Err((fault, disk, _)) => Ok((disk, Ended::Unopened(fault))),
-        Ok(mut desk) => {
-            for turns in lists {
-                take_turns(rt, alloc, &mut desk, *turns)?;
-            }
-            let (disk, _, saved) = desk.finish();
-            Ok((disk, Ended::Finished(saved)))
+) -> (D, Ended) {
+    let numbers = [J0].to_vec(alloc).expect(rt, "memory");
+    match Desk::open(alloc, disk, ListClock::new(numbers), 1 << 45) {
+        Ok(desk) => taken(rt, alloc, row, desk, lists),
+        Err((fault, disk, clock)) => {
+            drop(clock);
+            (disk, Ended::Unopened(fault))
         }
     }
+}
+
+// The same, if it is saved.
+pub fn finished<D: Disk + Drop>(
+    rt: &impl Abort,
+    alloc: Global,
+    row: &impl Debug,
+    disk: D,
+    lists: &[&[Turn]],
+) -> D {
+    let (disk, ended) = session(rt, alloc, row, disk, lists);
+    equal(rt, row, &ended, &FINISHED);
+    disk
 }

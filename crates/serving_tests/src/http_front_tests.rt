@@ -1,6 +1,8 @@
+ghost use Rattle.http_text.specs.Shorts.{IsShort};
+
+use crate::given::{bucket, equal, equal_bytes, made_desk};
 use class_rules::Class;
-use desk_core::{Acked, Desk, DeskFault, ListClock};
-use disk_core::{Disk, FileNo, MemoryDisk};
+use desk_core::{Acked, DeskFault};
 use http_bodies::BodyFault;
 use http_front::{
     Bad, MemoryReplies, MemorySource, ReaderSource, Replies, SessionEnd, Source, Teller,
@@ -8,13 +10,11 @@ use http_front::{
 };
 use http_text::is_short;
 use meter_journal::OpenFault;
-use office_base::BucketName;
 use office_types::{Ask, Command};
 use rules_core::RuleFlaw;
 use rules_json::RulesFault;
 use std::alloc::Global;
 use std::process::Abort;
-use std::test::Fail;
 use tariff::{TariffFault, TariffTable};
 
 const MADE: &[u8] =
@@ -107,12 +107,16 @@ const NOTHING: &Failing = &Failing {
     memory: 0,
 };
 
-fn joined(alloc: Global, pieces: &[&[u8]]) -> Result<Vec<u8>, Fail> {
+fn joined(rt: &impl Abort, alloc: Global, pieces: &[&[u8]]) -> Vec<u8> {
     let mut all = Vec::new(alloc);
     for piece in pieces {
-        all.extend_from_slice(*piece)?;
+        all.extend_from_slice(*piece).expect(rt, "memory");
     }
-    Ok(all)
+    all
+}
+
+fn list(rt: &impl Abort, alloc: Global, numbers: &[u64]) -> Vec<u64> {
+    numbers.to_vec(alloc).expect(rt, "memory")
 }
 
 /// Has one session. Only this function calls `session`.
@@ -125,8 +129,27 @@ fn talk<S: Source, W: Replies, T: Teller>(
     session(alloc, source, out, teller)
 }
 
-/// Has one session over a stream, given in pieces and read in cuts of this many bytes. Checks its end and the replies,
-/// also given in pieces.
+/// Has one session over a stream, given in pieces and read in cuts of this many bytes. Returns its end and the replies.
+fn had(
+    rt: &impl Abort,
+    alloc: Global,
+    stream: &[&[u8]],
+    cut: usize,
+    failing: &Failing,
+) -> (SessionEnd, MemoryReplies) {
+    let bytes = joined(rt, alloc, stream);
+    let mut source = MemorySource::new(bytes, cut, list(rt, alloc, failing.reads));
+    let mut out = MemoryReplies::new(alloc, list(rt, alloc, failing.texts));
+    let mut teller = FullTeller {
+        asks: 0,
+        store_fails: failing.store,
+        lacks: failing.memory,
+    };
+    let end = talk(alloc, &mut source, &mut out, &mut teller);
+    (end, out)
+}
+
+/// Has one session, and checks its end and the replies, also given in pieces.
 fn assert_session(
     rt: &impl Abort,
     alloc: Global,
@@ -134,23 +157,11 @@ fn assert_session(
     cut: usize,
     failing: &Failing,
     wanted: (SessionEnd, &[&[u8]]),
-) -> Result<(), Fail> {
-    let bytes = joined(alloc, stream)?;
-    let replies = joined(alloc, wanted.1)?;
-    let mut source = MemorySource::new(bytes, cut, failing.reads.to_vec(alloc)?);
-    let mut out = MemoryReplies::new(alloc, failing.texts.to_vec(alloc)?);
-    let mut teller = FullTeller {
-        asks: 0,
-        store_fails: failing.store,
-        lacks: failing.memory,
-    };
-    let end = talk(alloc, &mut source, &mut out, &mut teller);
-    assert_eq!(rt; end, wanted.0, "{stream:?} in cuts of {cut}");
-    assert!(rt;
-        out.said() == replies.as_slice(),
-        "{stream:?} in cuts of {cut}"
-    );
-    Ok(())
+) {
+    let (end, out) = had(rt, alloc, stream, cut, failing);
+    equal(rt, &(stream, cut), &end, &wanted.0);
+    let replies = joined(rt, alloc, wanted.1);
+    equal_bytes(rt, &(stream, cut), out.said(), &replies);
 }
 
 // The front of the reply to a refused message, up to the size of its body; and the text between the two.
@@ -218,8 +229,9 @@ const FAULTS: &[(DeskFault, &[u8], &[u8], &[u8])] = &[
 type Text = &'static [u8];
 
 // A reply with this status, and this size and text of its body.
-fn reply_of(alloc: Global, status: Text, size: Text, body: Text) -> Result<Vec<u8>, Fail> {
+fn reply_of(rt: &impl Abort, alloc: Global, status: Text, size: Text, body: Text) -> Vec<u8> {
     joined(
+        rt,
         alloc,
         &[
             b"HTTP/1.1 ",
@@ -233,34 +245,32 @@ fn reply_of(alloc: Global, status: Text, size: Text, body: Text) -> Result<Vec<u
 }
 
 // Whether the call's reply is printed into a room as this.
-fn is_printed_into(room: &mut [u8], fault: &DeskFault, reply: &[u8]) -> bool {
-    print_fault(room, fault) == Ok(reply.len()) && room.starts_with(reply)
+fn is_printed_into_room(fault: &DeskFault, reply: &[u8]) -> bool {
+    let mut room = [0u8; 200];
+    print_fault(&mut room, fault) == Ok(reply.len()) && room.starts_with(reply)
 }
 
-// Whether the reply is printed as this.
-fn is_printed(alloc: Global, bad: &Bad, reply: &[u8]) -> bool {
-    match print_bad(alloc, bad) {
-        Ok(text) => text.as_slice() == reply,
-        Err(_) => false,
-    }
+fn printed(rt: &impl Abort, alloc: Global, bad: Bad) -> Vec<u8> {
+    let text = print_bad(alloc, &bad);
+    drop(bad);
+    text.expect(rt, "memory")
 }
 
 #[test]
-fn faults_are_printed_exactly(rt: HostRuntime) -> Result<(), Fail> {
+fn faults_are_printed_exactly(rt: HostRuntime) {
     let alloc = rt.alloc();
     for (fault, status, size, body) in FAULTS {
-        let reply = reply_of(alloc, *status, *size, *body)?;
-        let mut room = [0u8; 200];
-        assert!(rt; is_printed_into(&mut room, fault, &reply), "{fault:?}");
-        assert!(rt; is_printed(alloc, &Bad::Desk(*fault), &reply), "{fault:?}");
+        let reply = reply_of(&rt, alloc, *status, *size, *body);
+        equal(&rt, fault, &is_printed_into_room(fault, &reply), &true);
+        let found = printed(&rt, alloc, Bad::Desk(*fault));
+        equal_bytes(&rt, fault, &found, &reply);
     }
     let mut short = [0u8; 124];
     assert!(rt; print_fault(&mut short, &DeskFault::JournalFull).is_err());
-    Ok(())
 }
 
 // A refusal without any text from the message.
-#[derive(Clone, Copy, Debug)]
+#[derive(Clone, Copy)]
 enum Refused {
     NotADate,
     NotMidnight,
@@ -396,19 +406,23 @@ const REFUSALS: &[(Refused, &[u8], &[u8], &[u8])] = &[
     ),
 ];
 
+fn unsupported(rt: &impl Abort, alloc: Global, name: &str) -> Bad {
+    let name = String::from_str(alloc, name).expect(rt, "memory");
+    Bad::Message(http_asks::Bad::Body(BodyFault::UnsupportedClass { name }))
+}
+
 #[test]
-fn refusals_are_printed_exactly(rt: HostRuntime) -> Result<(), Fail> {
+fn refusals_are_printed_exactly(rt: HostRuntime) {
     let alloc = rt.alloc();
-    for (refused, status, size, body) in REFUSALS {
-        let reply = reply_of(alloc, *status, *size, *body)?;
-        assert!(rt; is_printed(alloc, &bad_of(*refused), &reply), "{refused:?}");
+    for (index, (refused, status, size, body)) in REFUSALS.iter().enumerate() {
+        let reply = reply_of(&rt, alloc, *status, *size, *body);
+        let found = printed(&rt, alloc, bad_of(*refused));
+        equal_bytes(&rt, &index, &found, &reply);
     }
     let body = b"{\"error\":\"UnsupportedClass\",\"name\":\"FOO\",\"number\":43}";
-    let reply = reply_of(alloc, b"400 Bad Request", b"53", body)?;
-    let name = String::from_str(alloc, "FOO")?;
-    let bad = Bad::Message(http_asks::Bad::Body(BodyFault::UnsupportedClass { name }));
-    assert!(rt; is_printed(alloc, &bad, &reply));
-    Ok(())
+    let reply = reply_of(&rt, alloc, b"400 Bad Request", b"53", body);
+    let found = printed(&rt, alloc, unsupported(&rt, alloc, "FOO"));
+    equal_bytes(&rt, &"a class", &found, &reply);
 }
 
 // The requests for the same bucket, the cut, what fails, how the session ends, and the replies.
@@ -477,22 +491,15 @@ const FAILURES: &[(&[&[u8]], usize, Failing, SessionEnd, &[&[u8]])] = &[
 ];
 
 #[test]
-fn each_message_is_answered_once(rt: HostRuntime) -> Result<(), Fail> {
+fn each_message_is_answered_once(rt: HostRuntime) {
     let alloc = rt.alloc();
     for cut in 0..21 {
-        assert_session(
-            &rt,
-            alloc,
-            &[PUT, PUT],
-            cut,
-            NOTHING,
-            (ENDED, &[FULL, FULL]),
-        )?;
+        let wanted: &[&[u8]] = &[FULL, FULL];
+        assert_session(&rt, alloc, &[PUT, PUT], cut, NOTHING, (ENDED, wanted));
     }
     for (stream, cut, failing, end, said) in FAILURES {
-        assert_session(&rt, alloc, *stream, *cut, failing, (*end, *said))?;
+        assert_session(&rt, alloc, *stream, *cut, failing, (*end, *said));
     }
-    Ok(())
 }
 
 // Messages whose framing is refused, each with its reply (RFC 9110, "Status Codes"; RFC 6585).
@@ -531,53 +538,37 @@ const NOT_SERVED: &[(&[u8], &[u8])] = &[
     ),
 ];
 
-fn letters(alloc: Global, count: u64) -> Result<Vec<u8>, Fail> {
-    let mut all = Vec::new(alloc);
-    for _ in 0..count {
-        all.push(b'a')?;
-    }
-    Ok(all)
+fn letters(rt: &impl Abort, alloc: Global, count: usize) -> Vec<u8> {
+    vec![in alloc; b'a'; count].expect(rt, "memory")
 }
 
-fn assert_last(rt: &impl Abort, alloc: Global, message: &[u8], reply: &[u8]) -> Result<(), Fail> {
-    assert_session(rt, alloc, &[message], 1000, NOTHING, (ENDED, &[reply]))?;
-    assert_session(
-        rt,
-        alloc,
-        &[PUT, message],
-        13,
-        NOTHING,
-        (ENDED, &[FULL, reply]),
-    )
+fn assert_last(rt: &impl Abort, alloc: Global, message: &[u8], reply: &[u8]) {
+    assert_session(rt, alloc, &[message], 1000, NOTHING, (ENDED, &[reply]));
+    let replies = [FULL, reply];
+    assert_session(rt, alloc, &[PUT, message], 13, NOTHING, (ENDED, &replies));
 }
 
 #[test]
-fn a_refused_framing_is_the_last(rt: HostRuntime) -> Result<(), Fail> {
+fn a_refused_framing_is_the_last(rt: HostRuntime) {
     let alloc = rt.alloc();
     for (message, reply) in REFUSED_FRAMINGS {
-        assert_last(&rt, alloc, *message, *reply)?;
+        assert_last(&rt, alloc, *message, *reply);
     }
-    let letters = letters(alloc, 8187)?;
-    let long = joined(alloc, &[b"GET /", &letters])?;
-    assert_last(&rt, alloc, &long, LARGE_HEAD)
+    let letters = letters(&rt, alloc, 8187);
+    let long = joined(&rt, alloc, &[b"GET /", &letters]);
+    assert_last(&rt, alloc, &long, LARGE_HEAD);
 }
 
 #[test]
-fn a_session_goes_on_after_what_is_not_served(rt: HostRuntime) -> Result<(), Fail> {
+fn a_session_goes_on_after_what_is_not_served(rt: HostRuntime) {
     let alloc = rt.alloc();
     for (message, reply) in NOT_SERVED {
-        for cut in [1, 17, 1000] {
-            assert_session(
-                &rt,
-                alloc,
-                &[*message, PUT],
-                cut,
-                NOTHING,
-                (ENDED, &[*reply, FULL]),
-            )?;
+        for cut in &[1usize, 17, 1000] {
+            let replies = [*reply, FULL];
+            let stream = [*message, PUT];
+            assert_session(&rt, alloc, &stream, *cut, NOTHING, (ENDED, &replies));
         }
     }
-    Ok(())
 }
 
 // A message that is refused, and the size and the text of the reply's body.
@@ -628,28 +619,23 @@ const REFUSED: &[(&[u8], &[u8], &[u8])] = &[
 
 const BAD_NAME: &[u8] = b"{\"error\":\"BadBucketName\",\"number\":10}";
 
+// Checks that a message is refused with 400, a size and a text of the body, and that the session goes on.
+fn assert_refused(rt: &impl Abort, alloc: Global, message: &[u8], (size, body): (&[u8], &[u8])) {
+    let replies = [BAD, size, GAP, body, FULL];
+    assert_session(rt, alloc, &[message, PUT], 17, NOTHING, (ENDED, &replies));
+}
+
 #[test]
-fn a_session_goes_on_after_a_refusal(rt: HostRuntime) -> Result<(), Fail> {
+fn a_session_goes_on_after_a_refusal(rt: HostRuntime) {
     let alloc = rt.alloc();
     for (message, size, body) in REFUSED {
-        let wanted = &[BAD, *size, GAP, *body, FULL];
-        assert_session(&rt, alloc, &[*message, PUT], 17, NOTHING, (ENDED, wanted))?;
+        assert_refused(&rt, alloc, *message, (*size, *body));
     }
-    let key = letters(alloc, 1025)?;
-    let stream = &[
-        b"PUT /buckets/logs/objects/",
-        key.as_slice(),
-        b" HTTP/1.1\r\n\r\n",
-        PUT,
-    ];
-    let wanted = &[
-        BAD,
-        b"30",
-        GAP,
-        b"{\"error\":\"BadKey\",\"number\":11}",
-        FULL,
-    ];
-    assert_session(&rt, alloc, stream, 17, NOTHING, (ENDED, wanted))
+    let key = letters(&rt, alloc, 1025);
+    let pieces: &[&[u8]] = &[b"PUT /buckets/logs/objects/", &key, b" HTTP/1.1\r\n\r\n"];
+    let message = joined(&rt, alloc, pieces);
+    let body = b"{\"error\":\"BadKey\",\"number\":11}";
+    assert_refused(&rt, alloc, &message, (b"30", body));
 }
 
 // The last message of a session, and its reply.
@@ -670,39 +656,18 @@ const LAST: &[(&[u8], &[&[u8]])] = &[
 ];
 
 #[test]
-fn a_last_message_ends_the_session(rt: HostRuntime) -> Result<(), Fail> {
+fn a_last_message_ends_the_session(rt: HostRuntime) {
     for (message, said) in LAST {
-        assert_session(
-            &rt,
-            rt.alloc(),
-            &[*message, PUT],
-            17,
-            NOTHING,
-            (ENDED, *said),
-        )?;
-    }
-    Ok(())
-}
-
-/// A desk over an empty journal in memory.
-fn open_desk(alloc: Global) -> Result<Desk<MemoryDisk, ListClock>, Fail> {
-    let mut disk = MemoryDisk::new(alloc, Vec::new(alloc));
-    disk.write_at(FileNo::Journal, 0, b"\xA5METERJRN1\x00")?;
-    let clock = ListClock::new([1_704_067_200_000; 3].to_vec(alloc)?);
-    match Desk::open(alloc, disk, clock, 1_000_000) {
-        Ok(desk) => Ok(desk),
-        Err((fault, _, _)) => Err(Fail::from(fault)),
+        let stream = &[*message, PUT];
+        assert_session(&rt, rt.alloc(), stream, 17, NOTHING, (ENDED, *said));
     }
 }
 
-#[test]
-fn a_session_runs_over_readers_and_writers_of_std(rt: HostRuntime) -> Result<(), Fail> {
-    let alloc = rt.alloc();
-    let bytes = joined(alloc, &[PUT, PUT, b"DELETE /buckets/logs HTTP/1.1\r\n\r\n"])?;
-    let replies = joined(alloc, &[FULL, FULL, NO_METHOD])?;
+/// Has one session over a reader and writers of std. Returns its end, the replies and the notes.
+fn had_by_std(alloc: Global, bytes: &[u8]) -> (SessionEnd, Vec<u8>, Vec<u8>) {
     let mut said: Vec<u8> = Vec::new(alloc);
     let mut noted: Vec<u8> = Vec::new(alloc);
-    let mut source = ReaderSource::new(bytes.as_slice());
+    let mut source = ReaderSource::new(bytes);
     let mut out = WriterReplies::new(&mut said, &mut noted);
     let mut teller = FullTeller {
         asks: 0,
@@ -710,60 +675,74 @@ fn a_session_runs_over_readers_and_writers_of_std(rt: HostRuntime) -> Result<(),
         lacks: 0,
     };
     let end = talk(alloc, &mut source, &mut out, &mut teller);
-    assert_eq!(rt; end, ENDED);
-    assert!(rt; said.as_slice() == replies.as_slice());
-    assert!(rt; noted.is_empty());
-    Ok(())
+    (end, said, noted)
 }
 
 #[test]
-fn failing_replies_are_counted_together(rt: HostRuntime) -> Result<(), Fail> {
+fn a_session_runs_over_readers_and_writers_of_std(rt: HostRuntime) {
     let alloc = rt.alloc();
-    let mut out = MemoryReplies::new(alloc, [1, 3].to_vec(alloc)?);
-    assert!(rt; out.text(b"office\n").is_err());
-    let stream = joined(alloc, &[PUT, b"PUT /buckets/lo HTTP/1.1\r\n\r\n"])?;
+    let pieces: &[&[u8]] = &[PUT, PUT, b"DELETE /buckets/logs HTTP/1.1\r\n\r\n"];
+    let (end, said, noted) = had_by_std(alloc, &joined(&rt, alloc, pieces));
+    equal(&rt, &"the end", &end, &ENDED);
+    let replies = joined(&rt, alloc, &[FULL, FULL, NO_METHOD]);
+    equal_bytes(&rt, &"the replies", &said, &replies);
+    equal(&rt, &"the notes", &noted.len(), &0);
+}
+
+/// Has one session over a desk that makes a bucket, and then refuses a message.
+fn had_over_desk(rt: &impl Abort, alloc: Global, out: &mut MemoryReplies) -> SessionEnd {
+    let stream = joined(rt, alloc, &[PUT, b"PUT /buckets/lo HTTP/1.1\r\n\r\n"]);
     let mut source = MemorySource::new(stream, 50, Vec::new(alloc));
-    let mut desk = open_desk(alloc)?;
-    let end = talk(alloc, &mut source, &mut out, &mut desk);
-    assert_eq!(rt; end, SessionEnd::WriteFault);
-    assert!(rt; out.said() == MADE);
-    assert!(rt; out.text(b"office\n").is_ok());
-    assert!(rt; out.texts() == b"office\n".as_slice());
-    Ok(())
-}
-
-fn submitted(desk: &mut Desk<MemoryDisk, ListClock>, ask: &Ask) -> Result<Acked, Fail> {
-    match desk.submit(ask) {
-        Ok(acked) => Ok(acked),
-        Err(_) => Err(Fail::new("no answer")),
-    }
-}
-
-fn made_on(desk: &mut Desk<MemoryDisk, ListClock>, bucket: BucketName) -> Result<Acked, Fail> {
-    let ask = Ask::Command(Command::CreateBucket { bucket });
-    submitted(desk, &ask)
-}
-
-fn made(alloc: Global) -> Result<Acked, Fail> {
-    let bucket = BucketName::read(alloc, "logs")?;
-    let mut desk = open_desk(alloc)?;
-    made_on(&mut desk, bucket)
+    let mut desk = made_desk(rt, alloc);
+    let end = talk(alloc, &mut source, out, &mut desk);
+    drop(desk);
+    end
 }
 
 #[test]
-fn a_query_is_printed_as_a_reply(rt: HostRuntime) -> Result<(), Fail> {
+fn failing_replies_are_counted_together(rt: HostRuntime) {
     let alloc = rt.alloc();
-    let acked = made(alloc)?;
-    assert!(rt; is_short(acked.reply()));
-    let mut room = [0u8; 200];
-    assert!(rt; print_reply(&mut room, &acked) == Ok(MADE.len()));
-    assert!(rt; room.starts_with(MADE));
-    // One byte less than the reply has.
-    let mut short = [0u8; 92];
-    assert!(rt; print_reply(&mut short, &acked).is_err());
-    match print_query(alloc, &acked) {
-        Ok(text) => assert!(rt; text.as_slice() == MADE),
-        Err(_) => panic!(rt; "no memory"),
+    let mut out = MemoryReplies::new(alloc, list(&rt, alloc, &[1, 3]));
+    assert!(rt; out.text(b"office\n").is_err());
+    let end = had_over_desk(&rt, alloc, &mut out);
+    equal(&rt, &"the end", &end, &SessionEnd::WriteFault);
+    equal_bytes(&rt, &"the replies", out.said(), MADE);
+    assert!(rt; out.text(b"office\n").is_ok());
+    equal_bytes(&rt, &"the texts", out.texts(), b"office\n");
+}
+
+// The answer to a bucket that is made.
+fn made(rt: &impl Abort, alloc: Global) -> Acked {
+    let ask = Ask::Command(Command::CreateBucket {
+        bucket: bucket(rt, alloc, "logs"),
+    });
+    let mut desk = made_desk(rt, alloc);
+    let answer = desk.submit(&ask);
+    drop(ask);
+    drop(desk);
+    match answer {
+        Ok(acked) => acked,
+        Err(_) => panic!(rt; "no answer"),
     }
-    Ok(())
+}
+
+// Whether an answer is printed into a room as this, and not into a room of one byte less.
+fn is_printed_as(acked: &Acked, reply: &[u8]) -> bool
+    requires { IsShort acked.now.reply }
+{
+    let mut room = [0u8; 200];
+    let mut short = [0u8; 92];
+    print_reply(&mut room, acked) == Ok(reply.len())
+        && room.starts_with(reply)
+        && print_reply(&mut short, acked).is_err()
+}
+
+#[test]
+fn a_query_is_printed_as_a_reply(rt: HostRuntime) {
+    let acked = made(&rt, rt.alloc());
+    assert!(rt; is_short(acked.reply()));
+    assert!(rt; is_printed_as(&acked, MADE));
+    let text = print_query(rt.alloc(), &acked).expect(&rt, "memory");
+    drop(acked);
+    equal_bytes(&rt, &"a query", &text, MADE);
 }

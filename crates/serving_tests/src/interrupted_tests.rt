@@ -1,8 +1,8 @@
 //! Streams whose calls a signal interrupts: each call is made again, and that is no fault.
+use crate::given::equal;
 use http_front::{ReaderSource, Replies, Source, WriterReplies};
 use office_base::Failed;
 use std::io::{self, ErrorKind, Read, Write};
-use std::test::Fail;
 
 /// A reader of one byte, each read of which is interrupted this often before it is done.
 #[derive(Drop)]
@@ -54,31 +54,39 @@ impl Write for SlowWriter {
 // How often a read or a write is interrupted, and whether it is done.
 const ROWS: &[(u32, bool)] = &[(0, true), (1, true), (9_999, true), (10_000, false)];
 
-#[test]
-fn an_interrupted_read_is_tried_again(rt: HostRuntime) -> Result<(), Fail> {
-    for (interruptions, is_done) in ROWS {
-        let mut source = ReaderSource::new(SlowReader {
-            interruptions: *interruptions,
-            left: *interruptions,
-        });
-        let mut room = [0u8; 4];
-        let wanted = if *is_done { Ok(1) } else { Err(Failed) };
-        assert!(rt; source.read(&mut room) == wanted);
-    }
-    Ok(())
+// How many bytes a read gives that is interrupted this often.
+fn count_read(interruptions: u32) -> Result<usize, Failed> {
+    let mut source = ReaderSource::new(SlowReader {
+        interruptions,
+        left: interruptions,
+    });
+    let mut room = [0u8; 4];
+    source.read(&mut room)
 }
 
 #[test]
-fn an_interrupted_write_is_tried_again(rt: HostRuntime) -> Result<(), Fail> {
+fn an_interrupted_read_is_tried_again(rt: HostRuntime) {
     for (interruptions, is_done) in ROWS {
-        let writer = SlowWriter {
-            interruptions: *interruptions,
-            left: *interruptions,
-            taken: 0,
-        };
-        let mut out = WriterReplies::new(writer, io::sink());
-        let wanted = if *is_done { Ok(()) } else { Err(Failed) };
-        assert!(rt; out.text(b"office") == wanted);
+        let wanted = if *is_done { Ok(1) } else { Err(Failed) };
+        equal(&rt, interruptions, &count_read(*interruptions), &wanted);
     }
-    Ok(())
+}
+
+// Whether a text is written by calls that are interrupted this often.
+fn written(interruptions: u32) -> Result<(), Failed> {
+    let writer = SlowWriter {
+        interruptions,
+        left: interruptions,
+        taken: 0,
+    };
+    let mut out = WriterReplies::new(writer, io::sink());
+    out.text(b"office")
+}
+
+#[test]
+fn an_interrupted_write_is_tried_again(rt: HostRuntime) {
+    for (interruptions, is_done) in ROWS {
+        let wanted = if *is_done { Ok(()) } else { Err(Failed) };
+        equal(&rt, interruptions, &written(*interruptions), &wanted);
+    }
 }

@@ -1,6 +1,7 @@
 // The program with workers side by side, over a port and a gate of the tests' own.
 ghost use Rattle.std.specs.Prelude.{Some, ⊤};
 
+use crate::given::{equal, made_disk, new_year};
 use bill_book::MapKeeper;
 use desk_core::{Acked, ListClock};
 use disk_core::{Disk, FileNo, MemoryDisk};
@@ -10,9 +11,9 @@ use office_base::{Failed, NoMemory};
 use office_program::{End, office};
 use serving::{Gate, MemoryPort, Port, PortFault};
 use std::alloc::Global;
+use std::process::Abort;
 use std::sync::Wait;
 use std::sync::atomic::{AtomicU64, Ordering};
-use std::test::Fail;
 use std::thread;
 use std::thread::Threads;
 
@@ -20,27 +21,25 @@ const PUT: &[u8] = b"PUT /buckets/logs HTTP/1.1\r\nHost: x\r\n\r\n";
 
 const PUT_MORE: &[u8] = b"PUT /buckets/more HTTP/1.1\r\nHost: x\r\n\r\n";
 
-// The journal without entries.
-const EMPTY: &[u8] = b"\xA5METERJRN1\x00";
-
-// 2024-01-01 00:00 UTC.
-const NEW_YEAR: u64 = 1_704_067_200_000;
-
 // Two workers, of which each serves one connection.
 const WORDS: &[&str] = &["serve", "--listen=here", "--workers=2", "--connections=1"];
 
-fn made_disk(alloc: Global) -> Result<MemoryDisk, Fail> {
-    let mut disk = MemoryDisk::new(alloc, Vec::new(alloc));
-    disk.write_at(FileNo::Journal, 0, EMPTY)?;
-    Ok(disk)
-}
-
-fn port_of(alloc: Global, lines: &[&[u8]]) -> Result<MemoryPort, Fail> {
+fn port_of(rt: &impl Abort, alloc: Global, lines: &[&[u8]]) -> MemoryPort {
     let mut list = Vec::new(alloc);
     for line in lines {
-        list.push(line.to_vec(alloc)?)?;
+        let line = line.to_vec(alloc).expect(rt, "memory");
+        list.push(line).expect(rt, "memory");
     }
-    MemoryPort::new(alloc, list, Vec::new(alloc)).map_err(|_| Fail::from("no memory"))
+    MemoryPort::new(alloc, list, Vec::new(alloc)).expect(rt, "memory")
+}
+
+fn words(rt: &impl Abort, alloc: Global) -> Vec<String> {
+    let mut words = Vec::new(alloc);
+    for word in WORDS {
+        let word = String::from_str(alloc, *word).expect(rt, "memory");
+        words.push(word).expect(rt, "memory");
+    }
+    words
 }
 
 /// What the command is given, except the port and the gate: no input, at 2024-01-01 00:00 UTC, over a journal without
@@ -55,18 +54,14 @@ struct Given {
 }
 
 impl Given {
-    fn new(alloc: Global) -> Result<Given, Fail> {
-        let mut words = Vec::new(alloc);
-        for word in WORDS {
-            words.push(String::from_str(alloc, *word)?)?;
-        }
-        Ok(Given {
-            words,
+    fn new(rt: &impl Abort, alloc: Global) -> Given {
+        Given {
+            words: words(rt, alloc),
             input: MemorySource::new(Vec::new(alloc), 1, Vec::new(alloc)),
             out: MemoryReplies::new(alloc, Vec::new(alloc)),
-            disk: made_disk(alloc)?,
-            clock: ListClock::new([NEW_YEAR].to_vec(alloc)?),
-        })
+            disk: made_disk(rt, alloc),
+            clock: new_year(rt, alloc),
+        }
     }
 }
 
@@ -257,7 +252,7 @@ struct Served {
 }
 
 // Two workers serve one connection each. The first call of one is held until the other was answered.
-fn beside<R: Threads + Wait + Sync>(rt: &R, alloc: Global, held: u32) -> Result<Served, Fail> {
+fn beside<R: Threads + Wait + Sync + Abort>(rt: &R, alloc: Global, held: u32) -> Served {
     let answered = AtomicU64::new(0);
     let gate = HoldingGate {
         held,
@@ -265,34 +260,38 @@ fn beside<R: Threads + Wait + Sync>(rt: &R, alloc: Global, held: u32) -> Result<
         late: AtomicU64::new(0),
     };
     let mut port = FlagPort {
-        inner: port_of(alloc, &[PUT, PUT_MORE])?,
+        inner: port_of(rt, alloc, &[PUT, PUT_MORE]),
         answered: &answered,
     };
     let End {
         status,
         mut disk,
-        ..
-    } = serve_on(rt, alloc, Given::new(alloc)?, &mut port, &gate);
-    Ok(Served {
+        clock,
+    } = serve_on(rt, alloc, Given::new(rt, alloc), &mut port, &gate);
+    drop(clock);
+    let journal = disk.length(FileNo::Journal);
+    drop(disk);
+    Served {
         status,
-        journal: disk.length(FileNo::Journal)?,
+        journal: journal.expect(rt, "a length"),
         in_time: gate.late.load(Ordering::SeqCst) == 0,
         both: port.inner.said(2).is_some(),
-    })
+    }
 }
 
 // Either worker can be answered before the other. A bucket takes 20 bytes of the journal.
 #[test]
-fn workers_run_beside_each_other(rt: HostRuntime) -> Result<(), Fail> {
-    for held in [1, 2] {
-        let ran = beside(&rt, rt.alloc(), held)?;
-        assert!(rt; ran.in_time, "worker {held} is held too long");
-        assert!(rt;
-            ran.both,
-            "worker {held} is held, and a connection is not served"
+fn workers_run_beside_each_other(rt: HostRuntime) {
+    for held in &[1u32, 2] {
+        let ran = beside(&rt, rt.alloc(), *held);
+        let in_time = (ran.in_time, ran.both);
+        equal(
+            &rt,
+            &("in time, both served", *held),
+            &in_time,
+            &(true, true),
         );
-        assert_eq!(rt; ran.status, 0);
-        assert_eq!(rt; ran.journal, 51);
+        let ended = (ran.status, ran.journal);
+        equal(&rt, &("status, journal", *held), &ended, &(0, 51));
     }
-    Ok(())
 }

@@ -5,25 +5,19 @@ ghost use Rattle.turn_core.specs.Views.{left, right};
 ghost use Rattle.serving.specs.Askers.{AsksOnce};
 ghost use Rattle.serving.specs.Seats.{IsPassAt, turns_id};
 
+use crate::given::{bucket, made_desk};
 use desk_core::{Acked, Clock, Desk, DeskFault, ListClock};
 use disk_core::{Disk, FileNo, MemoryDisk};
 use http_front::Teller;
-use office_base::BucketName;
 use office_types::{Ask, Command, Query, Refusal, Reply};
 use serving::{Gate, Seated};
 use std::alloc::Global;
+use std::process::Abort;
 use std::sync::Wait;
 use std::sync::atomic::{AtomicU64, Ordering};
-use std::test::Fail;
 use std::thread;
 use std::thread::Threads;
 use turn_core::{Pass, Turned, Turns};
-
-// The journal without entries.
-const EMPTY: &[u8] = b"\xA5METERJRN1\x00";
-
-// 2024-01-01 00:00 UTC.
-const NEW_YEAR: u64 = 1_704_067_200_000;
 
 // The number of the asker that makes the bucket.
 const MAKER: u32 = 1;
@@ -221,47 +215,55 @@ where
     Some((made, shown, turns.close(pass)))
 }
 
-fn made_desk(alloc: Global) -> Result<Desk<MemoryDisk, ListClock>, Fail> {
-    let mut disk = MemoryDisk::new(alloc, Vec::new(alloc));
-    disk.write_at(FileNo::Journal, 0, EMPTY)?;
-    let clock = ListClock::new([NEW_YEAR].to_vec(alloc)?);
-    Desk::open(alloc, disk, clock, 1 << 30).map_err(|_| Fail::from("not opened"))
+// What the answers to both asks show: whether the bucket is shown, or none for other answers.
+fn shown_by(made: &Acked, shown: &Acked) -> Option<bool> {
+    match (made.reply(), shown.reply(), shown.position()) {
+        (Ok(Reply::BucketMade { .. }), Ok(Reply::BucketShown { .. }), 30) => Some(true),
+        (Ok(Reply::BucketMade { .. }), Err(Refusal::NoSuchBucket), 10) => Some(false),
+        _ => None,
+    }
+}
+
+// The length of the journal that a desk leaves.
+fn length_left(rt: &impl Abort, desk: Desk<MemoryDisk, ListClock>) -> u64 {
+    let (mut disk, clock, _) = desk.finish();
+    drop(clock);
+    let length = disk.length(FileNo::Journal);
+    drop(disk);
+    length.expect(rt, "a length")
 }
 
 // Whether the bucket is shown if one asker makes it, another asks for it, and the gate holds one of them.
-fn is_shown<R: Threads + Wait + Sync>(rt: &R, alloc: Global, held: u32) -> Result<bool, Fail> {
+fn is_shown<R: Threads + Wait + Sync + Abort>(rt: &R, alloc: Global, held: u32) -> bool {
     let make = Ask::Command(Command::CreateBucket {
-        bucket: BucketName::read(alloc, "logs")?,
+        bucket: bucket(rt, alloc, "logs"),
     });
-    let show = Ask::Query(Query::Bucket(BucketName::read(alloc, "logs")?));
+    let show = Ask::Query(Query::Bucket(bucket(rt, alloc, "logs")));
     let gate = HoldingGate::new(held);
-    let desk = made_desk(alloc)?;
-    let Some((made, shown, desk)) = both_asked(rt, alloc, desk, &gate, &make, &show) else {
-        return Err(Fail::from("no memory"));
-    };
+    let desk = made_desk(rt, alloc);
+    let asked = both_asked(rt, alloc, desk, &gate, &make, &show);
+    drop(make);
+    drop(show);
+    let (made, shown, desk) = asked.expect(rt, "memory");
     let (Ok(made), Ok(shown)) = (made, shown) else {
-        return Err(Fail::from("not answered"));
+        panic!(rt; "not answered")
     };
-    let (mut disk, _, _) = desk.finish();
     // The end gate of an empty journal is at 10, and 20 bytes later after the bucket.
-    if disk.length(FileNo::Journal)? != 31 || made.position() != 30 || !gate.let_both_through() {
-        return Err(Fail::from("not both asked once"));
-    }
-    match (made.reply(), shown.reply(), shown.position()) {
-        (Ok(Reply::BucketMade { .. }), Ok(Reply::BucketShown { .. }), 30) => Ok(true),
-        (Ok(Reply::BucketMade { .. }), Err(Refusal::NoSuchBucket), 10) => Ok(false),
-        _ => Err(Fail::from("another reply")),
-    }
+    assert!(rt; length_left(rt, desk) == 31 && made.position() == 30);
+    assert!(rt; gate.let_both_through());
+    let found = shown_by(&made, &shown);
+    drop(made);
+    drop(shown);
+    found.expect(rt, "a reply")
 }
 
 // A bucket is shown if and only if the call that makes it comes before the one that asks for it.
 #[test]
-fn a_bucket_is_shown_once_it_was_made(rt: HostRuntime) -> Result<(), Fail> {
+fn a_bucket_is_shown_once_it_was_made(rt: HostRuntime) {
     for _ in 0..20 {
-        assert!(rt; is_shown(&rt, rt.alloc(), VIEWER)?);
-        assert!(rt; !is_shown(&rt, rt.alloc(), MAKER)?);
+        assert!(rt; is_shown(&rt, rt.alloc(), VIEWER));
+        assert!(rt; !is_shown(&rt, rt.alloc(), MAKER));
         // Neither is held: the order is open.
-        is_shown(&rt, rt.alloc(), 0)?;
+        is_shown(&rt, rt.alloc(), 0);
     }
-    Ok(())
 }
