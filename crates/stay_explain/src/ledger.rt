@@ -143,10 +143,8 @@ impl Ledger {
             Err(refusal) => return Err(entry_refused(refusal, gate)),
         };
         if let Err(fault) = entry_taken(&reply, gate) {
-            drop(reply);
             return Err(fault);
         }
-        drop(reply);
         match book(&mut self.tables, alloc, &entry.command, booking) {
             Ok(()) => Ok(()),
             Err(NoMemory) => Err(OpenFault::NoMemory),
