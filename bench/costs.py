@@ -46,7 +46,7 @@ LEFT_OUT = 77  # as automake and meson have it
 TURNS, TRIES = 5, 3  # of the turns of a row the least processor time counts
 MADE, DONE, UNKNOWN = b"HTTP/1.1 201 ", b"HTTP/1.1 20", b'{"error":"UnknownField",'
 ACT, REMOVED = b"POST /buckets/logs/act HTTP/1.1\r\n\r\n", b'{"action":"remove",'
-ONE_TAG, COLDER = {"Tag": {"Key": "none", "Value": "none"}}, ("STANDARD_IA", "GLACIER_IR", "GLACIER", "DEEP_ARCHIVE")
+ONE_TAG, COLDER = {"Tag": {"Key": "none", "Value": "none"}}, ("STANDARD_IA", "ONEZONE_IA", "GLACIER_IR", "GLACIER", "DEEP_ARCHIVE")
 DUE, NONE_DUE = b"GET /buckets/logs/due HTTP/1.1\r\n\r\n", b'{"action":"none"}'
 CLASSES = ("STANDARD", "STANDARD_IA", "ONEZONE_IA", "GLACIER_IR", "GLACIER", "DEEP_ARCHIVE")
 NEVER = 365 * 70  # days after which nothing here is due
@@ -335,14 +335,16 @@ def put_on_stack(office: Office, size: int, rules: int = 0) -> Found:
     return by_turns(office, [puts * (5 if rules else 1_000)] * TURNS + [puts * 6], MADE, (put_rules([rule] * rules),) if rules else ())
 
 
-def put_below_steps(office: Office, size: int, rules: int) -> Found:
-    """Puts on a key with many versions, of which each step of the rules, five each, takes one of the newest alone."""
+def below_steps(office: Office, size: int, rules: int, removes: bool = False) -> Found:
+    """Puts on a key with many versions, or removals of its newer ones. Each step of the rules, six each, takes one of the newest alone."""
     write_stack(office, size, apart=1)
     moves = [{"NoncurrentDays": NEVER - 4_000 + 1_000 * it, "StorageClass": name} for it, name in enumerate(COLDER)]
     rule = {"Filter": ONE_TAG, "NoncurrentVersionExpiration": {"NoncurrentDays": NEVER + 1_000}, "NoncurrentVersionTransitions": moves}
-    before = (put_rules([rule] * rules), message("PUT /buckets/logs/objects/k", b'{"size":1000000,"tags":{"none":"none"}}'))
-    puts = [message("PUT /buckets/logs/objects/k", b'{"size":1}')]
-    return by_turns(office, [puts * 5] * TURNS + [puts * 6], MADE, before)
+    put = message("PUT /buckets/logs/objects/k", b'{"size":1}')
+    before = (put_rules([rule] * rules), message("PUT /buckets/logs/objects/k", b'{"size":1000000,"tags":{"none":"none"}}'), put)
+    removals = [message(f"DELETE /buckets/logs/versions/{size - 20 - it}/k") for it in range(5 * TURNS + 6)]
+    turns = [removals[5 * it:5 * it + 5] if removes else [put] * 5 for it in range(TURNS)]
+    return by_turns(office, [*turns, removals[-6:] if removes else [put] * 6], b'{"removed":' if removes else MADE, before)
 
 
 def act_on_stack(office: Office, size: int, rules: int) -> Found:
@@ -491,9 +493,11 @@ TABLE = {row.name: row for row in (
     # SECURITY: "199,000 versions and 1,000 rules"; the aim is 50 ms.
     Row("put-rules-most", "the same under 1,000 rules", "versions", (199_000,), (2_000,),
         partial(put_on_stack, rules=1_000), None, "MiB", 50, syncs=2),
-    # SECURITY: "of five steps each, which take one of the newest versions alone"; the aim is 50 ms.
-    Row("put-steps", "the same under 1,000 rules of five steps", "versions", (189_941,), (2_000,),
-        partial(put_below_steps, rules=1_000), None, "MiB", 50, syncs=2),
+    # SECURITY: "of six steps each, which take one of the newest versions alone"; the aim is 50 ms.
+    Row("put-steps", "the same under 1,000 rules of six steps", "versions", (189_941,), (2_000,),
+        partial(below_steps, rules=1_000), None, "MiB", 50, syncs=2),
+    Row("delete-steps", "DELETE of a version beside them", "versions", (189_941,), (2_000,),
+        partial(below_steps, rules=1_000, removes=True), None, "MiB", 50, syncs=2),
     # SECURITY: "an act that removes the oldest of 150,000 versions"; the aim is 50 ms.
     Row("act-rules", "POST act, which removes the oldest version", "versions", (150_000,), (2_000,),
         partial(act_on_stack, rules=1_000), None, "MiB", 50, syncs=2),

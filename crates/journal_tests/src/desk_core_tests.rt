@@ -481,15 +481,9 @@ const QUERIES: &[Row] = &[(
 )];
 
 fn assert_rows(rt: &impl Abort, alloc: Global, rows: &[Row]) {
-    for (failing, numbers, turns) in rows {
+    for (number, (failing, numbers, turns)) in rows.iter().enumerate() {
         let disk = disk_with(rt, alloc, EMPTY, *failing);
-        turns_taken(
-            rt,
-            alloc,
-            &(*failing, *numbers),
-            disk,
-            (*numbers, 1 << 20, *turns),
-        );
+        turns_taken(rt, alloc, &number, disk, (*numbers, 1 << 20, *turns));
     }
 }
 
