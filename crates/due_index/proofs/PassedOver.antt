@@ -1,4 +1,4 @@
--- The versions that a block says take no such step: those from the oldest one that is left up to the block's end.
+-- The versions that blocks say take no such step: those from the oldest one that is left up to the end of the last block.
 use Rattle.std.proofs.Common.{◌≡◌, ℕ, ◌-◌, ◌<◌, ◌≤◌, List, [], ◌∷◌, length, get_or, sym, ap, ◌∙◌, subst, Bool, true, false, arith, zero, suc, All}
 use Rattle.std.specs.Prelude.{◌&&◌, nat_le, Option, Some, Contains, slice_get}
 use Rattle.std.proofs.lemmas.Option.{slice_get_within, slice_get-get_or, get_or_from_slice_get}
@@ -11,7 +11,7 @@ use Rattle.stacks.specs.declared.version.Version.{Version}
 use Rattle.due_core.specs.declared.action.ActionKind.{ActionKind}
 use Rattle.due_core.specs.declared.action.Candidate.{Candidate}
 use Rattle.due_index.specs.Search.{IsFirstOf, takes_step}
-use Rattle.due_index.specs.Blocks.{BlockRecord, AreRightIn, IsIn, IsPassed, but_first, is_marked}
+use Rattle.due_index.specs.Blocks.{BlockRecord, AreClear, AreRightIn, IsIn, IsPassed, but_first, is_marked}
 use Rattle.due_index.specs.declared.asked.Setting.{Setting}
 use Rattle.due_index.specs.declared.noncurrent.Step.{Step}
 use Rattle.due_index.proofs.Oldest.{IsFrom, noncurrent_order, both, is_le, none_between}
@@ -27,24 +27,20 @@ module _ (changed : ℕ) (versions : List Version) (ordered : cease_in_order cha
       (subst (λ (x : Version). (get_or versions k v).ceased ≤ x.ceased) (get_or_from_slice_get versions j v v at_j)
       (noncurrent_order changed versions ordered j k v one le (slice_get_within versions k w at_k)))
 
-  module _ (blocks : List BlockRecord) (block : BlockRecord) (there : Contains blocks block) (place : ℕ) (kind : ActionKind)
-      (clear : is_marked block.marks place kind ≡ false) (left next : ℕ) (oldest : Version) (at : slice_get versions (left - 1) ≡ Some oldest)
-      (from : block.from ≤ oldest.ceased) (some : 1 ≤ next)
-      (until : (v : Version) → next < left → slice_get versions next ≡ Some v → v.ceased ≤ block.until) where
-    -- the block passes over the versions from the next one on
-    pub block_passes : (j : ℕ) (v : Version) → next ≤ j → j < left → slice_get versions j ≡ Some v → IsPassed blocks place kind v
-    block_passes j v le less at_j =
-        let first = get_or versions next v in
+  module _ (blocks : List BlockRecord) (first last place : ℕ) (kind : ActionKind) (clear : AreClear blocks first last place kind)
+      (begin end : BlockRecord) (at_first : slice_get blocks first ≡ Some begin) (at_last : slice_get blocks last ≡ Some end)
+      (left next : ℕ) (oldest : Version) (at : slice_get versions (left - 1) ≡ Some oldest) (from : begin.from ≤ oldest.ceased) (some : 1 ≤ next)
+      (until : (v : Version) → next < left → slice_get versions next ≡ Some v → v.ceased ≤ end.until) where
+    -- the blocks pass over the versions from the next one on
+    pub blocks_pass : (j : ℕ) (v : Version) → next ≤ j → j < left → slice_get versions j ≡ Some v → IsPassed blocks place kind v
+    blocks_pass j v le less at_j =
+        let newer = get_or versions next v in
         let within = slice_get_within versions j v at_j in
         let at_next = slice_get-get_or versions next v (omega arith) in
-        let newest = older_first next j first v some le at_next at_j in
-        let end = until first (omega arith) at_next in
-        let oldest_one = older_first j (left - 1) v oldest (omega arith) (omega arith) at_j at in record {
-          block = block;
-          there = there;
-          own = (omega (arith, from, oldest_one), omega (arith, newest, end));
-          clear = clear;
-        }
+        let newest = older_first next j newer v some le at_next at_j in
+        let ends = until newer (omega arith) at_next in
+        let oldest_one = older_first j (left - 1) v oldest (omega arith) (omega arith) at_j at in
+        clear begin end at_first at_last v (omega (arith, from, oldest_one)) (omega (arith, newest, ends))
 
 -- ---- what was passed over does not take the step
 

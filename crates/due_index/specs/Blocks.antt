@@ -110,3 +110,9 @@ pub record IsPassed (blocks : List BlockRecord) (place : ℕ) (kind : ActionKind
   pub there : Contains blocks block
   pub own : IsIn block version
   pub clear : is_marked block.marks place kind ≡ false
+
+-- each moment from the begin of one block until the end of another is in a block without this mark
+abbrev pub AreClear : List BlockRecord → ℕ → ℕ → ℕ → ActionKind → Type 0
+AreClear blocks first last place kind = (begin end : BlockRecord) → slice_get blocks first ≡ Some begin
+    → slice_get blocks last ≡ Some end → (version : Version) → begin.from ≤ version.ceased
+    → version.ceased ≤ end.until → IsPassed blocks place kind version

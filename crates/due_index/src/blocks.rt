@@ -1,5 +1,5 @@
 // Blocks of the noncurrent versions of a key that has many.
-ghost use Rattle.std.specs.Prelude.{◌≡◌, ◌≤◌, ◌<◌, [], All, ℕ, length, slice_get, IfOk, true, false, Some, nat_le, ◌&&◌};
+ghost use Rattle.std.specs.Prelude.{◌≡◌, ◌≤◌, ◌<◌, ◌+◌, [], All, ℕ, length, slice_get, IfOk, true, false, Some, nat_le, ◌&&◌};
 ghost use Rattle.std.specs.List.{list_any};
 ghost use Rattle.rules_core.specs.declared.rule.Rule.{Rule as RuleRecord};
 ghost use Rattle.due_core.specs.declared.action.ActionKind.{ActionKind as Kind};
@@ -120,6 +120,13 @@ impl Block {
         ensures { result ≡ nat_le self.now.from ceased && nat_le ceased self.now.until }
     {
         self.from.ms() <= ceased.ms() && ceased.ms() <= self.until.ms()
+    }
+
+    /// The next block begins no later than right after this one.
+    pub(crate) fn is_joined_by(&self, next: &Block) -> bool
+        ensures { result ≡ true → next.now.from ≤ self.now.until + 1 }
+    {
+        next.from.ms() <= self.until.ms() + 1
     }
 }
 

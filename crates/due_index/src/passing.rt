@@ -1,8 +1,8 @@
 // Which noncurrent versions of a key a search may pass over.
-ghost use Rattle.std.specs.Prelude.{◌≡◌, ◌≤◌, ◌<◌, ℕ, length, true, Some, slice_get};
+ghost use Rattle.std.specs.Prelude.{◌≡◌, ◌≤◌, ◌<◌, ℕ, length, true, false, Some, slice_get, IfSome};
 ghost use Rattle.stacks.specs.Ceasing.{cease_in_order};
 ghost use Rattle.stacks.specs.declared.version.Version.{Version as VersionRecord};
-ghost use Rattle.due_index.specs.Blocks.{IsPassed};
+ghost use Rattle.due_index.specs.Blocks.{IsPassed, AreClear, is_marked};
 
 use crate::blocks::{Block, Blocks};
 use due_core::ActionKind;
@@ -54,6 +54,26 @@ fn left_after(versions: &[Version], left: usize, until: Moment, guess: usize) ->
     }
 }
 
+// Goes on from a block that does not take this kind of step of the rule at this place, as long as the next one begins
+// where the last one ends and does not take it either. Gives the place of the last such block.
+fn last_clear(blocks: &[Block], first: usize, place: usize, kind: ActionKind) -> usize
+    requires within { first < length blocks.now }
+    requires clear { IfSome (slice_get blocks.now first) (λ block. is_marked block.marks place kind ≡ false) }
+    requires few { place ≤ 1_000 }
+    ensures from { first ≤ result }
+    ensures within { result < length blocks.now }
+    ensures clear { AreClear blocks.now first result place kind }
+{
+    let mut last = first;
+    while last + 1 < blocks.len()
+        && blocks[last].is_joined_by(&blocks[last + 1])
+        && !blocks[last + 1].is_marked(place, kind)
+    {
+        last += 1;
+    }
+    last
+}
+
 // Passes over the oldest versions that are left, as far as the blocks say that they do not take this kind of step of
 // the rule at this place.
 fn passed(blocks: &Blocks, of_key: &Stack, left: usize, place: usize, kind: ActionKind) -> Pass
@@ -84,9 +104,11 @@ fn passed(blocks: &Blocks, of_key: &Stack, left: usize, place: usize, kind: Acti
                 until: block.until.ms(),
             };
         }
-        let guess = versions.len().saturating_sub(block.end);
-        left = left_after(versions, left, block.until, guess);
-        at += 1;
+        let last = last_clear(&blocks.list, at, place, kind);
+        let end = &blocks.list[last];
+        let guess = versions.len().saturating_sub(end.end);
+        left = left_after(versions, left, end.until, guess);
+        at = last + 1;
     }
     Pass {
         left,

@@ -14,13 +14,13 @@ use stacks::{Stack, Version};
 use std::alloc::Global;
 
 // A block is made of this many versions; the last one, of the newest versions, has fewer and grows.
-const SIZE: usize = 512;
+const SIZE: usize = 256;
 
 /// A key with at most this many versions has no blocks.
-pub(crate) const FEW: usize = 2 * SIZE;
+pub(crate) const FEW: usize = SIZE;
 
 // Above this product of versions and rules a key has blocks.
-const MANY: usize = 500_000;
+const MANY: usize = 250_000;
 
 // Counts the rules whose prefix begins the key.
 fn rules_on(rules: &[Rule], key: &Key) -> usize {
@@ -244,8 +244,8 @@ fn join(
     }
 }
 
-// Clears the marks of the block at a place that no version needs, or joins it with the next one if both are small. A
-// block without versions goes.
+// Clears the marks of the block at a place that no version needs, or joins it with the next one if both are small. The
+// first and the last one go if they have no versions.
 fn remake(
     blocks: &mut Blocks,
     alloc: Global,
@@ -263,7 +263,7 @@ fn remake(
     if at >= blocks.list.len() {
         return;
     }
-    if is_empty(&blocks.list[at], but_first(of_key.versions())) {
+    if is_at_an_end(&blocks.list, at) && is_empty(&blocks.list[at], but_first(of_key.versions())) {
         drop(blocks.list.remove(at));
         return;
     }
@@ -272,6 +272,11 @@ fn remake(
         return;
     }
     refresh(&mut blocks.list[at], mode, rules, key, of_key);
+}
+
+// A block is the first or the last one: where it goes, it leaves no gap.
+fn is_at_an_end(blocks: &[Block], at: usize) -> bool {
+    at == 0 || at.saturating_add(1) >= blocks.len()
 }
 
 // A block has no versions.
@@ -340,6 +345,18 @@ fn may_grow(block: &Block, noncurrent: &[Version]) -> bool {
         && count_in(noncurrent, block.from, block.until) < SIZE
 }
 
+// A block after these begins where the last of them ends, so that no version is between them; the first one, with its
+// oldest version.
+fn start_of(blocks: &[Block], oldest: Moment) -> Moment {
+    let Some(last) = blocks.last() else {
+        return oldest;
+    };
+    match Moment::of(last.until.ms() + 1) {
+        Ok(from) => from,
+        Err(_) => oldest,
+    }
+}
+
 // Makes blocks of the newest versions that are in none.
 fn extend(
     blocks: &mut Blocks,
@@ -361,7 +378,8 @@ fn extend(
     };
     while left > 0 {
         let size = left.min(SIZE);
-        let (from, until) = (noncurrent[left - 1].ceased, noncurrent[left - size].ceased);
+        let until = noncurrent[left - size].ceased;
+        let from = start_of(&blocks.list, noncurrent[left - 1].ceased);
         // Those that ceased at the same moment are of the block too.
         let newer = first_until(noncurrent, until);
         if newer >= left {
