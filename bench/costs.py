@@ -496,6 +496,9 @@ TABLE = {row.name: row for row in (
     # SECURITY: "of six steps each, which take one of the newest versions alone"; the aim is 50 ms.
     Row("put-steps", "the same under 1,000 rules of six steps", "versions", (189_941,), (2_000,),
         partial(below_steps, rules=1_000), None, "MiB", 50, syncs=2),
+    # SECURITY: "on a key of 220 versions, which has no blocks"; the aim is 50 ms.
+    Row("put-steps-few", "the same on a key without blocks", "versions", (220,), (220,),
+        partial(below_steps, rules=1_000), None, "MiB", 50, syncs=2),
     Row("delete-steps", "DELETE of a version beside them", "versions", (189_941,), (2_000,),
         partial(below_steps, rules=1_000, removes=True), None, "MiB", 50, syncs=2),
     # SECURITY: "an act that removes the oldest of 150,000 versions"; the aim is 50 ms.

@@ -1,9 +1,9 @@
 #!/usr/bin/env python3
 """Builds a program with all processors busy: python3 tools/build.py CRATE
 
-Crates below CRATE are proved side by side, and then `rt run` builds the program. The crate with the longest chain above
-it starts at once, and the others work with what it leaves of the processors. How far it is goes to standard error, and
-what rt says to crates/CRATE/build.log. Status 3: not possible here.
+Crates below CRATE are proved side by side, one for each processor, and then `rt run` builds the program. The crate with
+the longest chain above it comes first. How far it is goes to standard error, and what rt says to crates/CRATE/build.log.
+Status 3: not possible here.
 
 A run of rt holds its crate and all below it, so two crates over a common one would wait for each other. Here each is
 proved in a tree of its own in .build/, with hard links to what is below it; its folder out/ is moved there and back.
@@ -22,6 +22,7 @@ ROOT = os.path.dirname(os.path.dirname(os.path.abspath(__file__)))
 TREES = f"{ROOT}/.build"
 PARTS = ("src", "specs", "proofs")
 JOB_BYTES = 2_000_000_000  # about what a job takes in the larger crates
+LARGE = 3_000  # lines of src/ above which a crate is proved faster by several jobs; each job reads all crates below it
 
 
 def say(text):
@@ -46,6 +47,10 @@ def below(name, uses):
 
 def sources(name):
     return [it for part in PARTS for it in Path(ROOT, "crates", name, part).rglob("*.*t")]
+
+
+def lines_of(name):
+    return sum(len(it.read_bytes().splitlines()) for it in Path(ROOT, "crates", name, "src").rglob("*.rt"))
 
 
 def is_built(name, lower):
@@ -117,9 +122,9 @@ class Build:
         self.program, self.log = program, log
         self.names = [*below(program, self.uses), program]
         self.done = [it for it in self.names[:-1] if is_built(it, below(it, self.uses))]
-        lines = {it: sum(len(file.read_bytes().splitlines()) for file in sources(it)) for it in self.names}
-        # A tenth more for each crate below, since these are loaded too.
-        self.cost = {it: (it not in self.done) * lines[it] * (1 + len(below(it, self.uses)) / 10) for it in self.names}
+        self.lines = {it: lines_of(it) for it in self.names}
+        # A sixtieth more for each crate below, since these are loaded too.
+        self.cost = {it: (it not in self.done) * self.lines[it] * (1 + len(below(it, self.uses)) / 60) for it in self.names}
         self.chain = {}
         for it in reversed(self.names):
             self.chain[it] = self.cost[it] + max([self.chain[up] for up in self.chain if it in self.uses[up]] or [0])
@@ -129,20 +134,16 @@ class Build:
         self.jobs = min(len(os.sched_getaffinity(0)), self.room)
 
     def start(self):
-        """Starts what can be started: the crate with the longest chain, with a job for each processor, as far as half
-        of the memory goes; and others, with a share of as many jobs again, as far as the memory goes."""
+        """Starts what can be started, that with the longest chain first: one crate for each processor, as far as the
+        memory goes. Beside the longest chain of all, the others wait for processors."""
         longest = max((it for it in self.names[:-1] if it not in self.done), key=self.chain.get)
         begun = [*self.done, *(it.name for it in self.running)]
         ready = [it for it in self.names[:-1] if it not in begun and {*self.uses[it]} <= {*self.done}]
         ready.sort(key=self.chain.get)
-        most = min(self.jobs, -(-self.room // 2))
-        if longest in ready:
-            ready.remove(longest)
-            self.running.append(start_apart(longest, most, self.rows, below(longest, self.uses), aside=False))
-        others = min(self.jobs, self.room - most)
-        while ready and (free := others - sum(it.jobs for it in self.running if it.name != longest)) > 0:
-            share, name = -(-free // len(ready)), ready.pop()
-            self.running.append(start_apart(name, share, self.rows, below(name, self.uses), aside=True))
+        while ready and len(self.running) < self.jobs and (room := self.room - sum(it.jobs for it in self.running)) > 0:
+            name = ready.pop()
+            jobs = min(self.jobs, room) if self.lines[name] > LARGE else 1
+            self.running.append(start_apart(name, jobs, self.rows, below(name, self.uses), aside=name != longest))
 
     def tell(self):
         """Says every 15 seconds how far the build is, and sleeps for a moment."""
@@ -151,8 +152,8 @@ class Build:
             undone = [it for it in self.names if it not in self.done]
             work = sum(self.cost[it] for it in undone) - sum(self.cost[it.name] / 2 for it in self.running)
             spent = self.told - self.begun
-            rate = (sum(self.cost.values()) - work) / spent if spent > 60 else 30 * self.jobs  # a first guess
-            left = max(work, self.jobs / 2 * max(self.chain[it] for it in undone))  # little is beside the longest chain
+            rate = (sum(self.cost.values()) - work) / spent if spent > 60 else 10 * self.jobs  # a first guess
+            left = max(work, self.jobs * max(self.chain[it] for it in undone))  # one processor works on the longest chain
             runs = ", ".join(f"{it.name} ({it.functions()} functions)" for it in self.running)
             say(f"{len(self.done)} of {len(self.names)} crates, {1 + left // (60 * rate):.0f} min left; proving {runs}")
         time.sleep(0.2)
@@ -173,7 +174,7 @@ class Build:
 
     def finish(self):
         """Proves, builds and runs the program. Answers whether it is built."""
-        self.running = [Run(self.program, f"{ROOT}/crates/{self.program}", "run", self.jobs, self.log)]
+        self.running = [Run(self.program, f"{ROOT}/crates/{self.program}", "run", 1, self.log)]
         while self.running[0].child.poll() is None:
             self.tell()
         return os.access(f"{ROOT}/crates/{self.program}/out/{self.program}", os.X_OK)
