@@ -45,28 +45,45 @@ impl<S: Alter> Handed<S> {
 
 // A connection outside a transaction.
 #[derive(Drop)]
-struct Idle {
-    connection: Connection<FileStore<File>>,
+struct Idle<S: Alter> {
+    connection: Connection<S>,
     ghost idle: { connection.in_transaction ≡ false },
 }
 
-// A database in a file, which is opened at the first call.
+// Where a database is that can be opened.
+trait Openable: Drop {
+    type Store: Alter + Drop;
+
+    fn open(&self) -> Result<Idle<Self::Store>, KeeperFault>;
+}
+
+// A database in the file at this path.
 #[derive(Drop)]
-struct OwnFile {
+struct FileAt {
     rt: HostRuntime,
     path: String,
-    opened: Option<Idle>,
 }
 
-fn opened(rt: &HostRuntime, path: &str) -> Result<Idle, KeeperFault> {
-    let connection = open_file(rt, path)?;
-    Ok(Idle { connection })
+impl Openable for FileAt {
+    type Store = FileStore<File>;
+
+    fn open(&self) -> Result<Idle<FileStore<File>>, KeeperFault> {
+        let connection = open_file(&self.rt, &self.path)?;
+        Ok(Idle { connection })
+    }
 }
 
-impl OwnFile {
+// A database of the keeper's own, which is opened at the first call.
+#[derive(Drop)]
+struct OwnDatabase<O: Openable> {
+    from: O,
+    opened: Option<Idle<O::Store>>,
+}
+
+impl<O: Openable> OwnDatabase<O> {
     fn open(&mut self) -> Result<(), KeeperFault> {
         if self.opened.is_none() {
-            self.opened = Some(opened(&self.rt, &self.path)?);
+            self.opened = Some(self.from.open()?);
         }
         Ok(())
     }
@@ -91,7 +108,7 @@ impl OwnFile {
 }
 
 fn post_at<S: Alter>(
-    place: &mut Place<Handed<S>, OwnFile>,
+    place: &mut Place<Handed<S>, OwnDatabase<FileAt>>,
     month: Month,
     bills: &[Bill],
 ) -> Result<Posted, KeeperFault>
@@ -103,12 +120,12 @@ fn post_at<S: Alter>(
 {
     match place {
         Place::Handed(handed) => handed.post(month, bills),
-        Place::Own(file) => file.post(month, bills),
+        Place::Own(own) => own.post(month, bills),
     }
 }
 
 fn read_at<S: Alter>(
-    place: &mut Place<Handed<S>, OwnFile>,
+    place: &mut Place<Handed<S>, OwnDatabase<FileAt>>,
     alloc: Global,
     month: Month,
 ) -> Result<Option<Vec<Bill>>, KeeperFault>
@@ -119,7 +136,7 @@ fn read_at<S: Alter>(
 {
     match place {
         Place::Handed(handed) => handed.bills(alloc, month),
-        Place::Own(file) => file.bills(alloc, month),
+        Place::Own(own) => own.bills(alloc, month),
     }
 }
 
@@ -142,7 +159,7 @@ fn counted(faults: &mut u64, fault: KeeperFault) -> KeeperFault
 /// file of its own it shows nothing of what it holds.
 #[derive(Drop)]
 pub struct SqliteKeeper<S: Alter> {
-    place: Place<Handed<S>, OwnFile>,
+    place: Place<Handed<S>, OwnDatabase<FileAt>>,
     alloc: Global,
     faults: u64,
 }
@@ -169,13 +186,12 @@ impl SqliteKeeper<FileStore<File>> {
         ensures { result ≡ record { is_over = false; rows = None; faults = 0 } }
     {
         let alloc = rt.alloc();
-        let file = OwnFile {
-            rt,
-            path,
+        let own = OwnDatabase {
+            from: FileAt { rt, path },
             opened: None,
         };
         SqliteKeeper {
-            place: Place::Own(file),
+            place: Place::Own(own),
             alloc,
             faults: 0,
         }
