@@ -59,6 +59,8 @@ fn command_in(
     let (token, rest) = token_in(alloc, carried, total, rest)?;
     let (command, rest) = fields_of_kind(alloc, kind, total, rest)?;
     if !rest.is_empty() {
+        drop(token);
+        drop(command);
         return Err(fault_at(total, rest));
     }
     Ok((token, command))
