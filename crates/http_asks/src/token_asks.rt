@@ -16,12 +16,16 @@ fn with_value(alloc: Global, value: &[u8], command: Command) -> Result<Ask, Faul
     ensures { IsMeaning result (with_value value.now command) }
 {
     let Ok(read) = Token::read(alloc, value) else {
+        drop(command);
         return Err(Fault::NoMemory);
     };
     let Some(token) = read else {
+        drop(command);
         return Err(Fault::Bad(Bad::BadToken));
     };
     if !command.takes_token() {
+        drop(token);
+        drop(command);
         return Err(Fault::Bad(Bad::TokenNotServed));
     }
     Ok(Ask::Once { token, command })
@@ -36,7 +40,10 @@ fn with_found(alloc: Global, bytes: &[u8], found: Found, command: Command) -> Re
     match found {
         Found::Absent => Ok(Ask::Command(command)),
         Found::Once(value) => with_value(alloc, value.of(bytes), command),
-        Found::Repeated => Err(Fault::Bad(Bad::BadToken)),
+        Found::Repeated => {
+            drop(command);
+            Err(Fault::Bad(Bad::BadToken))
+        }
     }
 }
 
