@@ -4,7 +4,7 @@ use std::alloc::Global;
 use std::process::Abort;
 
 // Words, one space between two, and what they are read as.
-const LINES: [(&str, &str); 66] = [
+const LINES: &[(&str, &str)] = &[
     ("init", "Ok(Init)"),
     ("run", "Ok(Run)"),
     (
@@ -123,7 +123,7 @@ fn told(rt: &impl Abort, alloc: Global, text: &str) -> String {
 
 #[test]
 fn lines(rt: HostRuntime) {
-    for (text, wanted) in &LINES {
+    for (text, wanted) in LINES {
         equal_text(&rt, text, &told(&rt, rt.alloc(), text), wanted);
     }
 }

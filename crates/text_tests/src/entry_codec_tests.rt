@@ -70,7 +70,9 @@ fn is_written(
         token,
         command,
     };
-    let written = encode(alloc, &entry).expect(rt, "memory");
+    let written = encode(alloc, &entry);
+    drop(entry);
+    let written = written.expect(rt, "memory");
     written.as_slice() == wanted
 }
 
@@ -78,7 +80,9 @@ fn is_written(
 fn is_written_again(rt: &impl Abort, alloc: Global, behind: &[u8]) -> bool {
     let bytes = entry_of(rt, alloc, behind);
     let entry = decode(alloc, &bytes).expect(rt, "an entry");
-    let written = encode(alloc, &entry).expect(rt, "memory");
+    let written = encode(alloc, &entry);
+    drop(entry);
+    let written = written.expect(rt, "memory");
     written.as_slice() == bytes.as_slice()
 }
 
@@ -158,7 +162,7 @@ fn a_tariff_in_tiers_is_written(rt: HostRuntime) {
 }
 
 // The bytes after the moment, by the table of kinds.
-const ENTRIES: [&[u8]; 35] = [
+const ENTRIES: &[&[u8]] = &[
     b"\x01\0\x04logs",
     b"\x02\0\x04logs\x01",
     b"\x02\0\x04logs\x02",
@@ -208,7 +212,7 @@ fn every_kind_is_read_and_written(rt: HostRuntime) {
 }
 
 // The bytes after the moment, and the offset of the first field that is invalid.
-const FAULTS: [(&[u8], u64); 27] = [
+const FAULTS: &[(&[u8], u64)] = &[
     (b"", 8),
     (b"\x11\0\x04logs", 8),
     (b"\x01\0\x04log", 9),
@@ -251,7 +255,7 @@ const FAULTS: [(&[u8], u64); 27] = [
 ];
 
 // The same for entries with tokens. Rules, acts and prices carry none.
-const TOKEN_FAULTS: [(&[u8], u64); 16] = [
+const TOKEN_FAULTS: &[(&[u8], u64)] = &[
     (b"\x80\x02t1\0\x04logs", 8),
     (b"\x83\x02t1\0\x04logs\0\0\0\0", 8),
     (b"\x8d\x02t1\0\x04logs", 8),
@@ -290,21 +294,24 @@ const MOVES: &[u8] = b"\0\0\0\0\0\0\0\0\0\0\0\0\0\0\0\0\0\0\0\0";
 const NO_BYTES: &[u8] = b"";
 
 // The parts after the moment, and the offset of the first field that is invalid. The tiers of a class are one field.
-const TIER_FAULTS: [([&[u8]; 5], u64); 17] = [
-    ([b"\x10\0\x04", b"\x01", ONE_CLASS, FIVE_CLASSES, MOVES], 9),
+const TIER_FAULTS: &[(&[&[u8]], u64)] = &[
+    (&[b"\x10\0\x04", b"\x01", ONE_CLASS, FIVE_CLASSES, MOVES], 9),
     (
-        [b"\x10\x08\x34", b"\x01", ONE_CLASS, FIVE_CLASSES, MOVES],
+        &[b"\x10\x08\x34", b"\x01", ONE_CLASS, FIVE_CLASSES, MOVES],
         9,
     ),
-    ([b"\x10\x07\xe8", b"\0", ONE_CLASS, FIVE_CLASSES, MOVES], 11),
     (
-        [b"\x10\x07\xe8", b"\x0d", ONE_CLASS, FIVE_CLASSES, MOVES],
+        &[b"\x10\x07\xe8", b"\0", ONE_CLASS, FIVE_CLASSES, MOVES],
+        11,
+    ),
+    (
+        &[b"\x10\x07\xe8", b"\x0d", ONE_CLASS, FIVE_CLASSES, MOVES],
         11,
     ),
     // No tier, and nine tiers.
-    ([FROM_2024, b"\0", NO_BYTES, FIVE_CLASSES, MOVES], 12),
+    (&[FROM_2024, b"\0", NO_BYTES, FIVE_CLASSES, MOVES], 12),
     (
-        [
+        &[
             FROM_2024,
             b"\x09\0\0\0\x01\0\0\0\0\0\0\0\x02\0\0\0\0\0\0\0\x03\0\0\0\0\0\0\0\x04\0\0\0\0\0\0\0\x05\0\0\0\0",
             b"\0\0\0\x06\0\0\0\0\0\0\0\x07\0\0\0\0\0\0\0\x08\0\0\0\0\0\0\0\0\0\0\0\0",
@@ -315,7 +322,7 @@ const TIER_FAULTS: [([&[u8]; 5], u64); 17] = [
     ),
     // The last tier has an end; a tier before the last has none; an end that does not rise.
     (
-        [
+        &[
             FROM_2024,
             b"\x01\0\0\0\x05\0\0\0\0",
             NO_BYTES,
@@ -325,7 +332,7 @@ const TIER_FAULTS: [([&[u8]; 5], u64); 17] = [
         12,
     ),
     (
-        [
+        &[
             FROM_2024,
             b"\x02\0\0\0\0\0\0\0\0\0\0\0\0\0\0\0\0",
             NO_BYTES,
@@ -335,7 +342,7 @@ const TIER_FAULTS: [([&[u8]; 5], u64); 17] = [
         12,
     ),
     (
-        [
+        &[
             FROM_2024,
             b"\x03\0\0\0\x05\0\0\0\0\0\0\0\x05\0\0\0\0\0\0\0\0\0\0\0\0",
             NO_BYTES,
@@ -346,7 +353,7 @@ const TIER_FAULTS: [([&[u8]; 5], u64); 17] = [
     ),
     // A price above the largest, cut off, and in the second class.
     (
-        [
+        &[
             FROM_2024,
             b"\x01\0\0\0\0\0\x10\0\x01",
             NO_BYTES,
@@ -356,7 +363,7 @@ const TIER_FAULTS: [([&[u8]; 5], u64); 17] = [
         12,
     ),
     (
-        [
+        &[
             FROM_2024,
             b"\x01\0\0\0\0\0\0\0",
             NO_BYTES,
@@ -366,7 +373,7 @@ const TIER_FAULTS: [([&[u8]; 5], u64); 17] = [
         12,
     ),
     (
-        [
+        &[
             FROM_2024,
             ONE_CLASS,
             b"\x01\0\0\0\0\0\x10\0\x01",
@@ -377,11 +384,11 @@ const TIER_FAULTS: [([&[u8]; 5], u64); 17] = [
     ),
     // The first price of a move, too large, and the last one, cut off.
     (
-        [FROM_2024, ONE_CLASS, FIVE_CLASSES, b"\0\x10\0\x01", MOVES],
+        &[FROM_2024, ONE_CLASS, FIVE_CLASSES, b"\0\x10\0\x01", MOVES],
         66,
     ),
     (
-        [
+        &[
             FROM_2024,
             ONE_CLASS,
             FIVE_CLASSES,
@@ -391,10 +398,10 @@ const TIER_FAULTS: [([&[u8]; 5], u64); 17] = [
         82,
     ),
     // One byte too many.
-    ([FROM_2024, ONE_CLASS, FIVE_CLASSES, MOVES, b"\0"], 86),
+    (&[FROM_2024, ONE_CLASS, FIVE_CLASSES, MOVES, b"\0"], 86),
     // What the shorter kind spells, from January 1970 with one tier for each class; bytes after it are reported later.
     (
-        [
+        &[
             b"\x10\x07\xb2\x01",
             ONE_CLASS,
             FIVE_CLASSES,
@@ -404,7 +411,7 @@ const TIER_FAULTS: [([&[u8]; 5], u64); 17] = [
         8,
     ),
     (
-        [b"\x10\x07\xb2\x01", ONE_CLASS, FIVE_CLASSES, MOVES, b"\0"],
+        &[b"\x10\x07\xb2\x01", ONE_CLASS, FIVE_CLASSES, MOVES, b"\0"],
         8,
     ),
 ];
@@ -439,7 +446,7 @@ const RULE: &[u8] =
     b"{\"Expiration\":{\"Days\":9},\"Filter\":{\"Prefix\":\"\"},\"ID\":\"a\",\"Status\":\"Enabled\"}";
 
 // A rule with a space; with its fields in another order; without its id; with a flaw; and a text that is not JSON.
-const OTHER_TEXTS: [&[u8]; 5] = [
+const OTHER_TEXTS: &[&[u8]] = &[
     b"{\"Expiration\":{\"Days\":9}, \"Filter\":{\"Prefix\":\"\"},\"ID\":\"a\",\"Status\":\"Enabled\"}",
     b"{\"ID\":\"a\",\"Expiration\":{\"Days\":9},\"Filter\":{\"Prefix\":\"\"},\"Status\":\"Enabled\"}",
     b"{\"Expiration\":{\"Days\":9},\"Filter\":{\"Prefix\":\"\"},\"Status\":\"Enabled\"}",

@@ -1,7 +1,7 @@
 // Documents that are not a configuration, with documents close to them, and their answers, as the tests write them.
 
 // Texts, the outermost object, and the names of fields (RFC 8259; S3 User Guide, "Lifecycle configuration elements").
-pub(crate) const JSON_ROWS: [(&str, &str); 54] = [
+pub(crate) const JSON_ROWS: &[(&str, &str)] = &[
     // A configuration as the AWS command line prints one.
     (
         "{'Rules':[{'ID':'logs','Filter':{'And':{'Prefix':'logs/','Tags':[{'Key':'kind','Value':'raw'},\
@@ -136,7 +136,7 @@ pub(crate) const JSON_ROWS: [(&str, &str); 54] = [
 ];
 
 // What fields hold, and the order in which they are read (S3 User Guide, "Lifecycle configuration elements").
-pub(crate) const FIELD_ROWS: [(&str, &str); 69] = [
+pub(crate) const FIELD_ROWS: &[(&str, &str)] = &[
     // A rule's own fields.
     ("'ID':1", "WrongShape ID"),
     ("'ID':null", "WrongShape ID"),
@@ -331,7 +331,7 @@ pub(crate) const FIELD_ROWS: [(&str, &str); 69] = [
 ];
 
 // Dates.
-pub(crate) const DATE_ROWS: [(&str, &str); 46] = [
+pub(crate) const DATE_ROWS: &[(&str, &str)] = &[
     // Dates.
     (
         ",'Expiration':{'Date':'2024-02-29'}",

@@ -1,7 +1,7 @@
 // Rules that break a condition, with rules close to them, and their answers, as the tests write them.
 
 // Ids, actions and ranges of numbers (S3 User Guide, "Lifecycle configuration elements").
-pub(crate) const RANGE_ROWS: [(&str, &str); 47] = [
+pub(crate) const RANGE_ROWS: &[(&str, &str)] = &[
     // Ids are filled in before they are compared; they differ by case.
     (
         ",'Expiration':{'Days':1}},{'ID':'rule-1','Status':'Disabled'",
@@ -207,7 +207,7 @@ pub(crate) const RANGE_ROWS: [(&str, &str); 47] = [
 
 // When objects move or expire, and which flaw comes first (S3 User Guide, "Transitioning objects using Amazon S3
 // Lifecycle").
-pub(crate) const ORDER_ROWS: [(&str, &str); 51] = [
+pub(crate) const ORDER_ROWS: &[(&str, &str)] = &[
     // When objects are moved, and when they expire.
     (
         ",'Transitions':[{'Days':29,'StorageClass':'STANDARD_IA'}]",
@@ -449,7 +449,7 @@ pub(crate) const ORDER_ROWS: [(&str, &str); 51] = [
 ];
 
 // How rules are spelled, and how many tags a filter has.
-pub(crate) const SPELLING_ROWS: [(&str, &str); 18] = [
+pub(crate) const SPELLING_ROWS: &[(&str, &str)] = &[
     // The spelling of filters.
     (
         "'Status':'Disabled','Expiration':{'Days':1}",

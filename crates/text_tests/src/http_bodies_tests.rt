@@ -91,7 +91,7 @@ fn are_told(rt: &impl Abort, alloc: Global, body: Body, rows: &[(&str, &str)]) {
 }
 
 // RFC 8259 for the texts, the S3 User Guide for sizes, classes and tags.
-const PUTS: [(&str, &str); 53] = [
+const PUTS: &[(&str, &str)] = &[
     ("{\"size\":0}", "0 STANDARD"),
     ("{\"size\":5497558138880}", "5497558138880 STANDARD"),
     (" \t\r\n{ \"size\" : 7 } \n", "7 STANDARD"),
@@ -173,10 +173,10 @@ const PUTS: [(&str, &str); 53] = [
 
 #[test]
 fn bodies_of_puts(rt: HostRuntime) {
-    are_told(&rt, rt.alloc(), Body::Put, &PUTS);
+    are_told(&rt, rt.alloc(), Body::Put, PUTS);
 }
 
-const UPLOADS: [(&str, &str); 8] = [
+const UPLOADS: &[(&str, &str)] = &[
     ("", "STANDARD"),
     (
         "{\"tags\":{\"a\":\"x\"},\"class\":\"GLACIER\"}",
@@ -195,10 +195,10 @@ const UPLOADS: [(&str, &str); 8] = [
 
 #[test]
 fn starts_of_uploads(rt: HostRuntime) {
-    are_told(&rt, rt.alloc(), Body::Upload, &UPLOADS);
+    are_told(&rt, rt.alloc(), Body::Upload, UPLOADS);
 }
 
-const TAGS: [(&str, &str); 8] = [
+const TAGS: &[(&str, &str)] = &[
     (
         "{\"tags\":{\"kind\":\"raw\",\"Keep\":\"no\"}}",
         "tags Keep=no kind=raw",
@@ -214,10 +214,10 @@ const TAGS: [(&str, &str); 8] = [
 
 #[test]
 fn tags_of_versions(rt: HostRuntime) {
-    are_told(&rt, rt.alloc(), Body::Tags, &TAGS);
+    are_told(&rt, rt.alloc(), Body::Tags, TAGS);
 }
 
-const PARTS: [(&str, &str); 7] = [
+const PARTS: &[(&str, &str)] = &[
     ("{\"size\":0}", "0"),
     // The range of a part's size is not checked here.
     ("{\"size\":18446744073709551615}", "18446744073709551615"),
@@ -230,10 +230,10 @@ const PARTS: [(&str, &str); 7] = [
 
 #[test]
 fn sizes_of_parts(rt: HostRuntime) {
-    are_told(&rt, rt.alloc(), Body::Part, &PARTS);
+    are_told(&rt, rt.alloc(), Body::Part, PARTS);
 }
 
-const SETTINGS: [(&str, &str); 8] = [
+const SETTINGS: &[(&str, &str)] = &[
     ("{\"Status\":\"Enabled\"}", "enabled"),
     ("{\"Status\":\"Suspended\"}", "suspended"),
     ("{\"Status\":\"enabled\"}", "BadBody Status"),
@@ -249,7 +249,7 @@ const SETTINGS: [(&str, &str); 8] = [
 
 #[test]
 fn settings_of_versioning(rt: HostRuntime) {
-    are_told(&rt, rt.alloc(), Body::Status, &SETTINGS);
+    are_told(&rt, rt.alloc(), Body::Status, SETTINGS);
 }
 
 #[test]
@@ -260,7 +260,7 @@ fn a_body_that_is_no_text(rt: HostRuntime) {
 }
 
 // Ten tags, and eleven.
-const COUNTS: [(&str, &str); 2] = [
+const COUNTS: &[(&str, &str)] = &[
     (
         "{\"size\":1,\"tags\":{\"a\":\"\",\"b\":\"\",\"c\":\"\",\"d\":\"\",\"e\":\"\",\"f\":\"\",\"g\":\"\",\"h\":\"\",\
 \"i\":\"\",\"j\":\"\"}}",
@@ -275,7 +275,7 @@ const COUNTS: [(&str, &str); 2] = [
 
 #[test]
 fn the_bound_of_tags(rt: HostRuntime) {
-    are_told(&rt, rt.alloc(), Body::Put, &COUNTS);
+    are_told(&rt, rt.alloc(), Body::Put, COUNTS);
 }
 
 // A body whose field nests this many arrays.
@@ -286,11 +286,11 @@ fn nested(rt: &impl Abort, alloc: Global, depth: usize) -> String {
     joined(rt, alloc, &["{\"a\":", &open, &close, "}"])
 }
 
-const DEPTHS: [(usize, &str); 2] = [(126, "BadBody a"), (127, "BadBody ")];
+const DEPTHS: &[(usize, &str)] = &[(126, "BadBody a"), (127, "BadBody ")];
 
 #[test]
 fn the_bound_of_depth(rt: HostRuntime) {
-    for (depth, answer) in &DEPTHS {
+    for (depth, answer) in DEPTHS {
         let text = nested(&rt, rt.alloc(), *depth);
         let told = told(&rt, rt.alloc(), Body::Put, text.as_bytes());
         equal_text(&rt, depth, &told, answer);

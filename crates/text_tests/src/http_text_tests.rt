@@ -51,19 +51,20 @@ fn printed(rt: &impl Abort, alloc: Global, answer: &Result<Reply, Refusal>) -> V
 fn is_printed(
     rt: &impl Abort,
     alloc: Global,
-    answer: &Result<Reply, Refusal>,
+    answer: Result<Reply, Refusal>,
     status: &str,
     body: &str,
 )
-    requires { AnswerFits answer.now }
+    requires { AnswerFits answer }
 {
-    let room = printed(rt, alloc, answer);
+    let room = printed(rt, alloc, &answer);
+    drop(answer);
     let wanted = reply_of(rt, alloc, status, JSON, body);
     assert!(rt; room.as_slice() == wanted.as_bytes(), "{body}");
 }
 
 // The numbers of refusals, their names, and the statuses of the replies.
-const SHORT: [(u16, &str, &str); 13] = [
+const SHORT: &[(u16, &str, &str)] = &[
     (50, "NoSuchKey", NOT_FOUND),
     (51, "NoSuchVersion", NOT_FOUND),
     (52, "IsMarker", CONFLICT),
@@ -110,9 +111,9 @@ fn short_body(rt: &impl Abort, alloc: Global, name: &str, number: u16) -> String
 
 #[test]
 fn short_refusals(rt: HostRuntime) {
-    for (number, name, status) in &SHORT {
+    for (number, name, status) in SHORT {
         let body = short_body(&rt, rt.alloc(), name, *number);
-        is_printed(&rt, rt.alloc(), &Err(refusal(*number)), status, &body);
+        is_printed(&rt, rt.alloc(), Err(refusal(*number)), status, &body);
     }
 }
 
@@ -164,7 +165,7 @@ fn telling(rt: &impl Abort, alloc: Global, told: More) -> Refusal
     }
 }
 
-const TELLING: [(More, &str, &str); 14] = [
+const TELLING: &[(More, &str, &str)] = &[
     (
         More::MonthNotOver,
         CONFLICT,
@@ -239,9 +240,9 @@ const TELLING: [(More, &str, &str); 14] = [
 
 #[test]
 fn refusals_that_tell_more(rt: HostRuntime) {
-    for (told, status, body) in &TELLING {
+    for (told, status, body) in TELLING {
         let refusal = telling(&rt, rt.alloc(), *told);
-        is_printed(&rt, rt.alloc(), &Err(refusal), status, body);
+        is_printed(&rt, rt.alloc(), Err(refusal), status, body);
     }
 }
 
@@ -304,7 +305,7 @@ fn reply(rt: &impl Abort, alloc: Global, replied: Replied) -> Reply
     }
 }
 
-const REPLIES: [(Replied, &str, &str); 18] = [
+const REPLIES: &[(Replied, &str, &str)] = &[
     (Replied::BucketMade, CREATED, "{\"bucket\":\"logs\"}"),
     (
         Replied::VersioningSet(Versioning::Enabled),
@@ -347,9 +348,9 @@ const REPLIES: [(Replied, &str, &str); 18] = [
 
 #[test]
 fn replies(rt: HostRuntime) {
-    for (replied, status, body) in &REPLIES {
+    for (replied, status, body) in REPLIES {
         let reply = reply(&rt, rt.alloc(), *replied);
-        is_printed(&rt, rt.alloc(), &Ok(reply), status, body);
+        is_printed(&rt, rt.alloc(), Ok(reply), status, body);
     }
 }
 
@@ -381,7 +382,7 @@ fn chosen(
 }
 
 // The kind of an action, its key, its target, its rule, the delete marker that it put, and the body.
-const ACTIONS: [(ActionKind, &[u8], On, &str, Option<u64>, &str); 5] = [
+const ACTIONS: &[(ActionKind, &[u8], On, &str, Option<u64>, &str)] = &[
     (
         ActionKind::Remove,
         b"a",
@@ -432,10 +433,10 @@ const ACTIONS: [(ActionKind, &[u8], On, &str, Option<u64>, &str); 5] = [
 #[test]
 fn actions(rt: HostRuntime) {
     let alloc = rt.alloc();
-    for (kind, bytes, on, rule, marker, body) in &ACTIONS {
+    for (kind, bytes, on, rule, marker, body) in ACTIONS {
         let (key, rule) = (key(&rt, alloc, bytes), text(&rt, alloc, rule));
         let reply = chosen(&rt, alloc, *kind, key, target(*on), rule, *marker);
-        is_printed(&rt, alloc, &Ok(reply), OK, body);
+        is_printed(&rt, alloc, Ok(reply), OK, body);
     }
 }
 
@@ -450,7 +451,9 @@ fn the_longest_action(rt: HostRuntime) {
     let key = key(&rt, alloc, &LONGEST_KEY);
     let reply = chosen(&rt, alloc, kind, key, target, rule, None);
     // 1,024 and 255 bytes, each escaped as six characters, and the text between them.
-    let size = printed(&rt, alloc, &Ok(reply)).len();
+    let answer = Ok(reply);
+    let size = printed(&rt, alloc, &answer).len();
+    drop(answer);
     equal(&rt, &"the longest", &size, &7_881);
 }
 
@@ -493,7 +496,7 @@ const METERS: &str = "{\"bucket\":\"logs\",\"classes\":[\
 #[test]
 fn meters(rt: HostRuntime) {
     let shown = Ok(meters_shown(&rt, rt.alloc()));
-    is_kept(&rt, rt.alloc(), &shown, JSON, METERS);
+    is_kept(&rt, rt.alloc(), shown, JSON, METERS);
 }
 
 #[test]
@@ -505,10 +508,12 @@ fn a_short_room(rt: HostRuntime) {
 }
 
 // Checks the reply that is printed into memory of its own.
-fn is_kept(rt: &impl Abort, alloc: Global, answer: &Result<Reply, Refusal>, media: &str, body: &str)
-    requires { AnswerFits answer.now }
+fn is_kept(rt: &impl Abort, alloc: Global, answer: Result<Reply, Refusal>, media: &str, body: &str)
+    requires { AnswerFits answer }
 {
-    let text = print_answer(alloc, answer).expect(rt, "memory");
+    let text = print_answer(alloc, &answer);
+    drop(answer);
+    let text = text.expect(rt, "memory");
     let wanted = reply_of(rt, alloc, OK, media, body);
     assert!(rt; text.as_slice() == wanted.as_bytes(), "{body}");
 }
@@ -554,7 +559,7 @@ fn the_versions_of_a_key(rt: HostRuntime) {
         key: key(&rt, rt.alloc(), b"a"),
         stack: two_versions(&rt, rt.alloc()),
     });
-    is_kept(&rt, rt.alloc(), &shown, JSON, VERSIONS);
+    is_kept(&rt, rt.alloc(), shown, JSON, VERSIONS);
 }
 
 #[test]
@@ -597,7 +602,7 @@ fn an_upload(rt: HostRuntime) {
         number: 1,
         upload: upload_of_parts(&rt, rt.alloc()),
     });
-    is_kept(&rt, rt.alloc(), &shown, JSON, UPLOAD);
+    is_kept(&rt, rt.alloc(), shown, JSON, UPLOAD);
 }
 
 const STORAGE: [u32; 6] = [23_000, 12_500, 10_000, 4_000, 3_600, 990];
@@ -639,7 +644,7 @@ fn the_prices(rt: HostRuntime) {
     let shown = Ok(Reply::TariffShown {
         tariffs: Items::of(tariffs),
     });
-    is_kept(&rt, alloc, &shown, JSON, PRICES);
+    is_kept(&rt, alloc, shown, JSON, PRICES);
 }
 
 const RULES: &[u8] =
@@ -655,7 +660,7 @@ fn a_configuration(rt: HostRuntime) {
         panic!(rt; "no configuration")
     };
     let shown = Ok(Reply::RulesShown { rules });
-    is_kept(&rt, rt.alloc(), &shown, JSON, CONFIGURATION);
+    is_kept(&rt, rt.alloc(), shown, JSON, CONFIGURATION);
 }
 
 // A report of January 2024 with one line of STANDARD.
@@ -689,7 +694,7 @@ fn a_report(rt: HostRuntime) {
     let alloc = rt.alloc();
     let one = Price::One(23_000);
     let report = Ok(january(&rt, alloc, 2_875_910_101_401_600_000, one, 23_000));
-    is_kept(&rt, alloc, &report, "text/csv", REPORT);
+    is_kept(&rt, alloc, report, "text/csv", REPORT);
     let report = Ok(january(&rt, alloc, 8_627_730_304_204_800_000, Price::Tiered, 63_000));
-    is_kept(&rt, alloc, &report, "text/csv", IN_TIERS);
+    is_kept(&rt, alloc, report, "text/csv", IN_TIERS);
 }

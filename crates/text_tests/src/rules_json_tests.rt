@@ -78,37 +78,37 @@ fn are_answered(rt: &impl Abort, alloc: Global, rows: &[(&str, &str)]) {
 
 #[test]
 fn texts_and_their_names(rt: HostRuntime) {
-    are_answered(&rt, rt.alloc(), &JSON_ROWS);
+    are_answered(&rt, rt.alloc(), JSON_ROWS);
 }
 
 #[test]
 fn fields_in_their_order(rt: HostRuntime) {
-    are_answered(&rt, rt.alloc(), &FIELD_ROWS);
+    are_answered(&rt, rt.alloc(), FIELD_ROWS);
 }
 
 #[test]
 fn dates(rt: HostRuntime) {
-    are_answered(&rt, rt.alloc(), &DATE_ROWS);
+    are_answered(&rt, rt.alloc(), DATE_ROWS);
 }
 
 #[test]
 fn ids_and_ranges(rt: HostRuntime) {
-    are_answered(&rt, rt.alloc(), &RANGE_ROWS);
+    are_answered(&rt, rt.alloc(), RANGE_ROWS);
 }
 
 #[test]
 fn flaws_in_their_order(rt: HostRuntime) {
-    are_answered(&rt, rt.alloc(), &ORDER_ROWS);
+    are_answered(&rt, rt.alloc(), ORDER_ROWS);
 }
 
 #[test]
 fn spellings(rt: HostRuntime) {
-    are_answered(&rt, rt.alloc(), &SPELLING_ROWS);
+    are_answered(&rt, rt.alloc(), SPELLING_ROWS);
 }
 
 // A document with a part repeated this often after the head, and another repeated as often before the tail; and its
 // answer.
-const LONG_ROWS: [(&str, &str, &str, usize, &str, &str); 22] = [
+const LONG_ROWS: &[(&str, &str, &str, usize, &str, &str)] = &[
     // Lists within lists.
     ("", "[", "]", 127, "", "WrongShape "),
     ("", "[", "]", 128, "", "NotJson"),
@@ -249,7 +249,7 @@ fn long_document(
 
 #[test]
 fn long_documents_and_their_answers(rt: HostRuntime) {
-    for (head, part, other, times, tail, wanted) in &LONG_ROWS {
+    for (head, part, other, times, tail, wanted) in LONG_ROWS {
         let text = long_document(&rt, rt.alloc(), head, (part, other), *times, tail);
         let told = told(&rt, rt.alloc(), text.as_bytes());
         equal_text(&rt, &(*head, *times), &told, wanted);
