@@ -16,7 +16,14 @@ fn hear(
     text: &mut String,
 ) -> Result<bool, Fail> {
     let heard = reader.next(alloc, source);
-    let (meaning, ending, is_last) = match &heard {
+    let is_last = put_heard(text, &heard);
+    drop(heard);
+    is_last
+}
+
+// Writes what a message means, and returns whether no other message is heard after it.
+fn put_heard(text: &mut String, heard: &Result<Heard, MessageStop>) -> Result<bool, Fail> {
+    let (meaning, ending, is_last) = match heard {
         Ok(
             Heard::Asked {
                 ask: Ask::Command(command) | Ask::Once { command, .. },
@@ -35,7 +42,7 @@ fn hear(
         Err(_) => (("Stop", [NO, NO, NO, NO, NO]), "", true),
     };
     put(text, &meaning)?;
-    if let Some(token) = token_of(&heard) {
+    if let Some(token) = token_of(heard) {
         write!(text, " with {}", str::from_utf8(token.bytes())?)?;
     }
     text.push_str(ending)?;
@@ -60,18 +67,47 @@ fn after(is_last: bool) -> &'static str {
     if is_last { " last" } else { "; " }
 }
 
-// What is heard of bytes in reads of at most `cut` bytes, some of which fail. Messages are heard one after another, up
-// to the end or the last message of the session, and at most four.
-fn heard(alloc: Global, bytes: &[u8], cut: usize, failing: &[u64]) -> Result<String, Fail> {
-    let mut source = MemorySource::new(bytes.to_vec(alloc)?, cut, failing.to_vec(alloc)?);
-    let mut reader = Reader::new(alloc)?;
-    let mut text = String::new(alloc);
+// Hears messages one after another, up to the end or the last message of the session, and at most four.
+fn hear_all(
+    alloc: Global,
+    reader: &mut Reader,
+    source: &mut MemorySource,
+    text: &mut String,
+) -> Result<(), Fail> {
     for _ in 0..4 {
-        if hear(alloc, &mut reader, &mut source, &mut text)? {
+        if hear(alloc, reader, source, text)? {
             break;
         }
     }
+    Ok(())
+}
+
+// What is heard of a source.
+fn heard_of(alloc: Global, source: &mut MemorySource) -> Result<String, Fail> {
+    let mut reader = Reader::new(alloc)?;
+    let mut text = String::new(alloc);
+    let heard = hear_all(alloc, &mut reader, source, &mut text);
+    drop(reader);
+    heard?;
     Ok(text)
+}
+
+fn source_of(
+    alloc: Global,
+    bytes: &[u8],
+    cut: usize,
+    failing: &[u64],
+) -> Result<MemorySource, Fail> {
+    let bytes = bytes.to_vec(alloc)?;
+    Ok(MemorySource::new(bytes, cut, failing.to_vec(alloc)?))
+}
+
+// What is heard of bytes in reads of at most `cut` bytes, some of which fail.
+fn heard(alloc: Global, bytes: &[u8], cut: usize, failing: &[u64]) -> Result<String, Fail> {
+    let mut source = source_of(alloc, bytes, cut, failing)?;
+    let text = heard_of(alloc, &mut source);
+    drop(source);
+    text
 }
 
 // Checks what is heard of a stream, in reads of each of these lengths.

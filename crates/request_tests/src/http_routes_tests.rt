@@ -1,5 +1,6 @@
 use http_routes::{Route, Routes, read_key};
 use office_base::NameRefusal;
+use std::process::Abort;
 use std::test::Fail;
 
 // Targets, and where they lead.
@@ -204,12 +205,17 @@ const TARGETS: &[(&[u8], Option<Route<'static>>)] = &[
     (b"/buckets/logs/objects/\xc3", None),
 ];
 
+fn assert_leads(rt: &impl Abort, routes: &Routes, target: &[u8], route: &Option<Route<'_>>) {
+    assert_eq!(rt; routes.find(target), *route, "{target:?}");
+}
+
 #[test]
 fn targets(rt: HostRuntime) -> Result<(), Fail> {
     let routes = Routes::new(rt.alloc())?;
     for (target, route) in TARGETS {
-        assert_eq!(rt; routes.find(*target), *route, "{target:?}");
+        assert_leads(&rt, &routes, *target, route);
     }
+    drop(routes);
     Ok(())
 }
 
