@@ -30,7 +30,41 @@ fn take(ledger: &mut Ledger, alloc: Global, entry: Entry, gate: u64) -> Result<(
         → IsLedgerOf (history ++ entry ∷ []) ledger.new) }
     ensures fault { IfErr result (λ fault. IsNotTaken gate ledger.old.office entry fault) }
 {
-    ledger.take(alloc, &entry, gate)
+    let taken = ledger.take(alloc, &entry, gate);
+    drop(entry);
+    taken
+}
+
+/// Reads the entries of a made journal, whose file has this length, into the ledger of no entries, and books their
+/// stays.
+fn read_into<D: Disk>(
+    alloc: Global,
+    disk: &mut D,
+    end: u64,
+    ledger: &mut Ledger,
+) -> Result<(), OpenFault>
+    requires known { IsTrue D.tells → end ≡ length (D.state disk.old).journal.seen }
+    requires made { IsTrue D.tells → IsMade (D.state disk.old).journal.seen }
+    requires empty { IsLedgerOf [] ledger.old }
+    ensures read { OnOk result (ReadsLedger D.Disk disk.old ledger.new) }
+    ensures fails { IsTrue D.tells → IfErr result (λ fault. OpenFails fault (D.state disk.old).journal.seen) }
+    ensures untouched { OnlyReads D.Disk disk.old disk.new }
+    ensures cause { HasStoreCause (D.fault_count disk.old) (D.fault_count disk.new) result }
+{
+    let mut window = Window::new(alloc)?;
+    let mut gate = FIRST;
+    'reading: loop {
+        match frame_in(alloc, disk, gate, end, &mut window) {
+            Ok(Some((entry, next))) => {
+                if let Err(fault) = take(ledger, alloc, entry, gate) {
+                    return Err(fault);
+                }
+                gate = next;
+            }
+            Ok(None) => return Ok(()),
+            Err(fault) => return Err(fault),
+        }
+    }
 }
 
 /// Reads the entries of a made journal, whose file has this length, and books their stays.
@@ -42,19 +76,12 @@ fn read<D: Disk>(alloc: Global, disk: &mut D, end: u64) -> Result<Ledger, OpenFa
     ensures untouched { OnlyReads D.Disk disk.old disk.new }
     ensures cause { HasStoreCause (D.fault_count disk.old) (D.fault_count disk.new) result }
 {
-    let mut window = Window::new(alloc)?;
     let mut ledger = Ledger::new(alloc);
-    let mut gate = FIRST;
-    'reading: loop {
-        match frame_in(alloc, disk, gate, end, &mut window) {
-            Ok(Some((entry, next))) => {
-                if let Err(fault) = take(&mut ledger, alloc, entry, gate) {
-                    return Err(fault);
-                }
-                gate = next;
-            }
-            Ok(None) => return Ok(ledger),
-            Err(fault) => return Err(fault),
+    match read_into(alloc, disk, end, &mut ledger) {
+        Ok(()) => Ok(ledger),
+        Err(fault) => {
+            drop(ledger);
+            Err(fault)
         }
     }
 }
@@ -84,7 +111,13 @@ pub fn explain<D: Disk, R: Threads + Sync>(
     let end = measure(disk)?;
     let ledger = read(alloc, disk, end)?;
     match table_text(rt, alloc, ledger.tables(), workers) {
-        Ok(text) => Ok(text),
-        Err(NoMemory) => Err(OpenFault::NoMemory),
+        Ok(text) => {
+            drop(ledger);
+            Ok(text)
+        }
+        Err(NoMemory) => {
+            drop(ledger);
+            Err(OpenFault::NoMemory)
+        }
     }
 }

@@ -143,6 +143,7 @@ impl Ledger {
             Err(refusal) => return Err(entry_refused(refusal, gate)),
         };
         if let Err(fault) = entry_taken(&reply, gate) {
+            drop(reply);
             return Err(fault);
         }
         match book(&mut self.tables, alloc, &entry.command, booking) {

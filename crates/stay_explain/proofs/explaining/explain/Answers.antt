@@ -20,5 +20,8 @@ returns-in-Ok-clause-table g c =
       };
     }
 
-pub returns-clause-untouched : goal.returns-clause-untouched
-returns-clause-untouched g c = only_reads_then c.measure.ensures.untouched c.read.ensures.untouched
+pub returns-in-Ok-clause-untouched : goal.returns-in-Ok-clause-untouched
+returns-in-Ok-clause-untouched g c = only_reads_then c.measure.ensures.untouched c.read.ensures.untouched
+
+pub returns-in-Err-clause-untouched : goal.returns-in-Err-clause-untouched
+returns-in-Err-clause-untouched g c = only_reads_then c.measure.ensures.untouched c.read.ensures.untouched

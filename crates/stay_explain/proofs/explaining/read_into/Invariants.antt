@@ -2,7 +2,7 @@ use Rattle.std.proofs.Common.{◌≡◌, ◌≤◌, ◌-◌, ◌^◌, IsTrue, le
 use Rattle.disk_core.specs.Moments.{OnlyReads}
 use Rattle.meter_journal.specs.Windows.{IsPart}
 use Rattle.stay_explain.proofs.Readings.{HasRead}
-use Rattle.stay_explain.proofs.explaining.read.Given as goal
+use Rattle.stay_explain.proofs.explaining.read_into.Given as goal
 
 abbrev pub invariant-reading : goal.invariant-reading
 invariant-reading g l = record {

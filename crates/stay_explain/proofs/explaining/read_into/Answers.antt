@@ -9,7 +9,7 @@ use Rattle.meter_journal.specs.Windows.{IsPart}
 use Rattle.meter_journal.proofs.Parts.{no_part}
 use Rattle.stay_explain.specs.Ledgers.{IsLedgerOf}
 use Rattle.stay_explain.proofs.Readings.{none_read, one_read, all_read, few_read, take_fails, frame_fails}
-use Rattle.stay_explain.proofs.explaining.read.Goals as goal
+use Rattle.stay_explain.proofs.explaining.read_into.Goals as goal
 
 pub reading-init : goal.reading-init
 reading-init g c = record {
@@ -19,7 +19,7 @@ reading-init g c = record {
     tally = refl;
     files = λ told. started g.D.Disk c.args.disk.now (λ s. s ≡ g.D.Disk.state c.args.disk.now) (g.met.D.Disk.only_now c.args.disk.now) refl;
   };
-  read = none_read g.D.Disk c.args.disk.now c.new-ledger.result c.requires.made c.new-ledger.ensures.empty;
+  read = none_read g.D.Disk c.args.disk.now c.args.ledger.now c.requires.made c.requires.empty;
   later = omega arith;
   quiet = refl;
 }
