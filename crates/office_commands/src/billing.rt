@@ -197,8 +197,12 @@ fn bill_by<W: Replies, K: BillKeeper, D: Disk + Drop, C: Clock + Drop>(
     if !desk.office().closed(month) {
         return end_billing(out, MONTH_OPEN, open_month_line());
     }
-    let reply = desk.look(told, &Query::Report(month));
-    post_reply(alloc, out, keeper, month, &reply)
+    let query = Query::Report(month);
+    let reply = desk.look(told, &query);
+    drop(query);
+    let status = post_reply(alloc, out, keeper, month, &reply);
+    drop(reply);
+    status
 }
 
 // Bills a month with an open desk, and closes it.

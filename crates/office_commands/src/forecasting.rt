@@ -171,8 +171,16 @@ fn propose<W: Replies>(
     ensures unnoted { result ≡ 0 → NotesNothing W.Replies out.old out.new }
 {
     match Forecast::begin(office, t, &asked.bucket, rules, asked.day) {
-        Ok(mut forecast) => say_forecast(alloc, out, &mut forecast, t, asked.day),
-        Err(fault) => refuse_proposal(out, &fault),
+        Ok(mut forecast) => {
+            let status = say_forecast(alloc, out, &mut forecast, t, asked.day);
+            drop(forecast);
+            status
+        }
+        Err(fault) => {
+            let status = refuse_proposal(out, &fault);
+            drop(fault);
+            status
+        }
     }
 }
 
@@ -205,7 +213,11 @@ fn foretell_by<S: Source, W: Replies, D: Disk + Drop, C: Clock + Drop>(
             let t = moment_for(told, office.last());
             propose(alloc, out, office, t, asked, rules)
         }
-        Err(fault) => refuse_input(out, &fault),
+        Err(fault) => {
+            let status = refuse_input(out, &fault);
+            drop(fault);
+            status
+        }
     }
 }
 

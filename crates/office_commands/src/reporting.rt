@@ -119,10 +119,13 @@ fn say_report<W: Replies, D: Disk + Drop, C: Clock + Drop>(
     ensures write_fault { result.status ≡ 4 → Rose (W.faults out.old) (W.faults out.new) }
     ensures unnoted { result.status ≡ 0 → NotesNothing W.Replies out.old out.new }
 {
-    let reply = desk.look(told, &Query::Report(month));
+    let query = Query::Report(month);
+    let reply = desk.look(told, &query);
+    drop(query);
     // The journal did not grow, so no checkpoint is saved.
     let (disk, clock, _) = desk.finish();
     let status = say_reply(alloc, out, &reply, as_text);
+    drop(reply);
     End {
         status,
         disk,

@@ -5,8 +5,8 @@ use Rattle.office_commands.specs.Billing.{billing, EndsBilling}
 use Rattle.office_commands.proofs.Billed.{may_be_posted, billed_closed, billed_open}
 use Rattle.office_commands.proofs.billing.bill_by.Goals as goal
 
-pub post_reply-requires-clause-of_month : goal.post_reply-requires-clause-of_month
-post_reply-requires-clause-of_month g c =
+pub post_reply-status-requires-clause-of_month : goal.post_reply-status-requires-clause-of_month
+post_reply-status-requires-clause-of_month g c =
     let office = c.requires.stands.0 in
     let stood = c.requires.stands.1 in
     let closed : c.closed.result ≡ true = search rules in
@@ -19,8 +19,8 @@ returns-clause-bills g c office stood =
     let closed : c.closed.result ≡ true = search rules in
     let stands = subst (λ (v : OfficeView). StandsFor v office) (sym c.office.ensures.same) stood in
     billed_closed c.args.told c.args.month office g.W.Replies g.K.BillKeeper
-    (billing c.args.month c.args.keeper.now c.post_reply.new.keeper) refl c.args.out.now c.post_reply.new.out c.post_reply.result
-    (sym (c.closed.ensures.exact office stands) ∙ closed) c.look-reply.result (c.look-reply.ensures.answered office stood) c.post_reply.ensures.posts
+    (billing c.args.month c.args.keeper.now c.post_reply-status.new.keeper) refl c.args.out.now c.post_reply-status.new.out c.post_reply-status.result
+    (sym (c.closed.ensures.exact office stands) ∙ closed) c.look-reply.result (c.look-reply.ensures.answered office stood) c.post_reply-status.ensures.posts
 
 pub returns-then-not-closed-clause-bills : goal.returns-then-not-closed-clause-bills
 returns-then-not-closed-clause-bills g c office stood =

@@ -20,4 +20,4 @@ returns-in-Ok-clause-forecasts g c office stood =
 pub returns-in-Err-clause-forecasts : goal.returns-in-Err-clause-forecasts
 returns-in-Err-clause-forecasts g c office stood =
     without g.W.Replies c.args.asked.now (stream_ends (g.S.Source.left c.args.input.now) (g.S.Source.left c.read_configuration.new.input)) c.args.told office
-    c.args.out.now c.refuse_input.new.out c.refuse_input.result c.in-Err.fault c.in-Err.ensures.says c.refuse_input.ensures.tells
+    c.args.out.now c.refuse_input-status.new.out c.refuse_input-status.result c.in-Err.fault c.in-Err.ensures.says c.refuse_input-status.ensures.tells
