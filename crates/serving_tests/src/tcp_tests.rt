@@ -5,6 +5,8 @@ use std::alloc::Global;
 use std::io::{Read, Write};
 use std::net::{Net, Shutdown, TcpListener, TcpStream};
 use std::process::Abort;
+use std::sync::Wait;
+use std::thread::Threads;
 
 const MADE: &[u8] =
     b"HTTP/1.1 201 Created\r\ncontent-type: application/json\r\ncontent-length: 17\r\n\r\n{\"bucket\":\"logs\"}";
@@ -39,6 +41,28 @@ fn said_to(rt: &impl Abort, alloc: Global, mut client: TcpStream) -> Vec<u8> {
     said
 }
 
+// One worker serves three connections over a port. Only this function calls `serve`.
+fn end_of_serving<P: Port + Send, R: Threads + Wait + Sync + Abort>(
+    rt: &R,
+    alloc: Global,
+    port: &mut P,
+) -> WorkerEnd
+where
+    P::Source: Send,
+    P::Replies: Send,
+{
+    let (desk, end) = serve(rt, alloc, made_desk(rt, alloc), port, &OpenGate, 1, 3);
+    drop(desk);
+    end
+}
+
+// Checks what was said to the client that makes a bucket and asks for it.
+fn assert_both(rt: &impl Abort, alloc: Global, client: TcpStream) {
+    let said = said_to(rt, alloc, client);
+    assert!(rt; said.starts_with(MADE) && said.ends_with(BUCKET));
+    equal(rt, &"the first", &said.len(), &(MADE.len() + BUCKET.len()));
+}
+
 // The system keeps what a client sends before its connection is accepted, so one thread is enough.
 #[test]
 fn a_port_of_the_network_serves_connections(rt: HostRuntime) {
@@ -49,13 +73,10 @@ fn a_port_of_the_network_serves_connections(rt: HostRuntime) {
     // This client is gone before it is served.
     drop(connected(&rt, &mut port, &[GET, GET, GET]));
     let last = connected(&rt, &mut port, &[GET]);
-    let desk = made_desk(&rt, alloc);
-    let (_, end) = serve(&rt, alloc, desk, &mut port, &OpenGate, 1, 3);
-    assert!(rt; end == WorkerEnd::Done);
-    let said = said_to(&rt, alloc, first);
-    assert!(rt; said.starts_with(MADE) && said.ends_with(BUCKET));
-    equal(&rt, &"the first", &said.len(), &(MADE.len() + BUCKET.len()));
+    assert!(rt; end_of_serving(&rt, alloc, &mut port) == WorkerEnd::Done);
+    assert_both(&rt, alloc, first);
     equal_bytes(&rt, &"the last", &said_to(&rt, alloc, last), BUCKET);
+    drop(port);
 }
 
 #[test]

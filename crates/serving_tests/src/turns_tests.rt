@@ -233,27 +233,42 @@ fn length_left(rt: &impl Abort, desk: Desk<MemoryDisk, ListClock>) -> u64 {
     length.expect(rt, "a length")
 }
 
-// Whether the bucket is shown if one asker makes it, another asks for it, and the gate holds one of them.
-fn is_shown<R: Threads + Wait + Sync + Abort>(rt: &R, alloc: Global, held: u32) -> bool {
+// The answers to one ask that makes a bucket and to one that asks for it, and the desk that they leave.
+fn make_and_show<R: Threads + Wait + Sync + Abort>(
+    rt: &R,
+    alloc: Global,
+    gate: &HoldingGate,
+) -> (Said, Said, Desk<MemoryDisk, ListClock>) {
     let make = Ask::Command(Command::CreateBucket {
         bucket: bucket(rt, alloc, "logs"),
     });
     let show = Ask::Query(Query::Bucket(bucket(rt, alloc, "logs")));
-    let gate = HoldingGate::new(held);
     let desk = made_desk(rt, alloc);
-    let asked = both_asked(rt, alloc, desk, &gate, &make, &show);
+    let asked = both_asked(rt, alloc, desk, gate, &make, &show);
     drop(make);
     drop(show);
-    let (made, shown, desk) = asked.expect(rt, "memory");
-    let (Ok(made), Ok(shown)) = (made, shown) else {
-        panic!(rt; "not answered")
-    };
-    // The end gate of an empty journal is at 10, and 20 bytes later after the bucket.
-    assert!(rt; length_left(rt, desk) == 31 && made.position() == 30);
-    assert!(rt; gate.let_both_through());
-    let found = shown_by(&made, &shown);
+    asked.expect(rt, "memory")
+}
+
+fn acked(rt: &impl Abort, said: Said) -> Acked {
+    match said {
+        Ok(acked) => acked,
+        Err(_) => panic!(rt; "not answered"),
+    }
+}
+
+// Whether the bucket is shown if one asker makes it, another asks for it, and the gate holds one of them.
+fn is_shown<R: Threads + Wait + Sync + Abort>(rt: &R, alloc: Global, held: u32) -> bool {
+    let gate = HoldingGate::new(held);
+    let (made, shown, desk) = make_and_show(rt, alloc, &gate);
+    let length = length_left(rt, desk);
+    let (made, shown) = (acked(rt, made), acked(rt, shown));
+    let (position, found) = (made.position(), shown_by(&made, &shown));
     drop(made);
     drop(shown);
+    // The end gate of an empty journal is at 10, and 20 bytes later after the bucket.
+    assert!(rt; length == 31 && position == 30);
+    assert!(rt; gate.let_both_through());
     found.expect(rt, "a reply")
 }
 
