@@ -92,13 +92,24 @@ pub fn given_messages<'a>(
     input: &str,
     cut: usize,
 ) -> Result<Given<'a>> {
+    let input = input.as_bytes().to_vec(alloc)?;
+    let port = port_of(alloc, &[], &[])?;
     Ok(Given {
         words,
         clock,
-        source: MemorySource::new(input.as_bytes().to_vec(alloc)?, cut, Vec::new(alloc)),
+        source: MemorySource::new(input, cut, Vec::new(alloc)),
         out: MemoryReplies::new(alloc, Vec::new(alloc)),
-        port: port_of(alloc, &[], &[])?,
+        port,
     })
+}
+
+// The input of a command, with the spaces before it.
+fn input_of(alloc: Global, command: &Command) -> Result<Vec<u8>> {
+    let mut input = vec![in alloc; b' '; command.spaces]?;
+    if let Some(text) = &command.input {
+        input.extend_from_slice(text.as_bytes())?;
+    }
+    Ok(input)
 }
 
 /// What a command of a case is given.
@@ -107,16 +118,15 @@ pub fn given_command(alloc: Global, command: &Command, cut: usize) -> Result<Giv
     for value in &command.clock {
         clock.push(number_of(alloc, value)?)?;
     }
-    let mut input = vec![in alloc; b' '; command.spaces]?;
-    if let Some(text) = &command.input {
-        input.extend_from_slice(text.as_bytes())?;
-    }
+    let input = input_of(alloc, command)?;
     let reads = command.failing_reads.to_vec(alloc)?;
+    let texts = command.failing_texts.to_vec(alloc)?;
+    let port = port_of(alloc, &command.connections, &command.failing_port)?;
     Ok(Given {
         words: &command.words,
         clock,
         source: MemorySource::new(input, cut, reads),
-        out: MemoryReplies::new(alloc, command.failing_texts.to_vec(alloc)?),
-        port: port_of(alloc, &command.connections, &command.failing_port)?,
+        out: MemoryReplies::new(alloc, texts),
+        port,
     })
 }

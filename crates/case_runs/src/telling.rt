@@ -4,6 +4,14 @@ use case_table::{put_bytes, put_lines, tell_replies};
 use std::alloc::{AllocError, Global};
 use std::fmt::Write;
 
+// Adds the lines of these replies, each after an indent.
+fn put_replies(page: &mut String, replies: &[String]) -> Result<(), AllocError> {
+    for reply in replies {
+        put_lines(page, "  ", reply.as_str())?;
+    }
+    Ok(())
+}
+
 // Adds what was written on each connection.
 fn put_connections(page: &mut String, alloc: Global, ran: &Ran) -> Result<(), AllocError> {
     for nth in 1..u64::MAX {
@@ -11,9 +19,10 @@ fn put_connections(page: &mut String, alloc: Global, ran: &Ran) -> Result<(), Al
             return Ok(());
         };
         writeln!(page, "connection {nth}")?;
-        for reply in &tell_replies(alloc, said)? {
-            put_lines(page, "  ", reply.as_str())?;
-        }
+        let replies = tell_replies(alloc, said)?;
+        let put = put_replies(page, &replies);
+        drop(replies);
+        put?;
     }
     Ok(())
 }
