@@ -1,66 +1,52 @@
 // The cases of a document. README.md says what each name means.
 use anyhow::{Context, Result, bail};
 use moments::read_date;
-use serde::Deserialize;
 use std::alloc::Global;
 use toml::Value;
-use toml_datetime::{Datetime, Offset};
+use toml::value::{Datetime, Offset};
 
 /// The contents of a document.
-#[derive(Drop, Deserialize)]
-#[serde(deny_unknown_fields)]
+#[derive(Drop)]
 pub struct Document {
     pub case: Vec<Case>,
 }
 
 /// What is done over one disk, in the order of the fields.
-#[derive(Drop, Deserialize)]
-#[serde(deny_unknown_fields)]
+#[derive(Drop)]
 pub struct Case {
     pub name: String,
     /// The journal file at the start: `made`, or its bytes in hexadecimal digits; if it is missing, the file has no
     /// bytes.
     pub journal: Option<String>,
     /// The numbers of the disk's calls that fail, counted from 1. Call 1 writes the journal file.
-    #[serde(default)]
     pub failing: Vec<u64>,
     /// The sizes of the pieces in which input comes, in bytes. The whole case is done once for each.
-    #[serde(default)]
     pub cuts: Vec<usize>,
-    #[serde(default)]
     pub write: Vec<Write>,
-    #[serde(default)]
     pub step: Vec<Step>,
-    #[serde(default)]
     pub command: Vec<Command>,
     /// The months for which the keeper of bills has an empty list at the start. A call posts each of them.
-    #[serde(default)]
     pub kept_months: Vec<String>,
     /// The numbers of the calls of the keeper of bills that fail, counted from 1 over all commands.
-    #[serde(default)]
     pub failing_keeper: Vec<u64>,
     /// Whether the bytes of the journal file are printed at the end.
-    #[serde(default)]
     pub shown: bool,
     pub stops: Option<Stops>,
 }
 
 /// A write to the journal file by another hand.
-#[derive(Drop, Deserialize)]
-#[serde(deny_unknown_fields)]
+#[derive(Drop)]
 pub struct Write {
     /// The offset, in bytes.
     pub at: u64,
     /// The bytes, in hexadecimal digits.
     pub bytes: String,
     /// Whether the file is synced before.
-    #[serde(default)]
     pub synced: bool,
 }
 
 /// A message of a session.
-#[derive(Drop, Deserialize)]
-#[serde(deny_unknown_fields)]
+#[derive(Drop)]
 pub struct Step {
     /// The number that the clock gives.
     pub at: Value,
@@ -74,33 +60,26 @@ pub struct Step {
 }
 
 /// One command of the program.
-#[derive(Drop, Deserialize)]
-#[serde(deny_unknown_fields)]
+#[derive(Drop)]
 pub struct Command {
     pub words: Vec<String>,
     /// The numbers that the clock gives; it repeats the last one.
     pub clock: Vec<Value>,
     pub input: Option<String>,
     /// How many spaces come before the input.
-    #[serde(default)]
     pub spaces: usize,
     /// The numbers of the reads of the input that fail, counted from 1.
-    #[serde(default)]
     pub failing_reads: Vec<u64>,
     /// The numbers of the replies and other texts whose writing fails, counted from 1.
-    #[serde(default)]
     pub failing_texts: Vec<u64>,
     /// What the clients of the connections send: one text for each connection.
-    #[serde(default)]
     pub connections: Vec<String>,
     /// The numbers of the port's calls that fail, counted from 1. Call 1 is the one that listens.
-    #[serde(default)]
     pub failing_port: Vec<u64>,
 }
 
 /// Stops of the disk: what a message is answered over each crash image of the journal file.
-#[derive(Drop, Deserialize)]
-#[serde(deny_unknown_fields)]
+#[derive(Drop)]
 pub struct Stops {
     /// The disk stops after each number of calls from the first of these to the second.
     pub calls: [u64; 2],

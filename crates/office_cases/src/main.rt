@@ -5,7 +5,7 @@ mod doing;
 
 use crate::doing::tell_case;
 use anyhow::{Context, Result};
-use case_table::Document;
+use case_table::{Document, read_document};
 use std::alloc::Global;
 use std::io;
 use std::process::ExitCode;
@@ -14,7 +14,7 @@ use std::thread::Threads;
 
 // Prints each case of the document, in order.
 fn print_cases<R: Threads + Wait + Sync + Print>(rt: &R, alloc: Global, text: &str) -> Result<()> {
-    let document: Document = toml::from_str(alloc, text)?;
+    let document: Document = read_document(alloc, text)?;
     for case in &document.case {
         let page = tell_case(rt, alloc, case).context(format_args!("case {:?}", case.name))?;
         rt.print(page)?;

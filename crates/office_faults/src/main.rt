@@ -11,6 +11,7 @@ use crate::damage::tell_damage;
 use crate::faults::tell_faults;
 use crate::stops::tell_stops;
 use anyhow::{Context, Result, bail};
+use case_table::read_document;
 use fault_table::{Document, Table, plan_of};
 use std::alloc::Global;
 use std::io;
@@ -33,7 +34,7 @@ fn tell_table<R: Threads + Wait + Sync>(rt: &R, alloc: Global, table: &Table) ->
 
 // Prints each table of the document, in order.
 fn print_tables<R: Threads + Wait + Sync + Print>(rt: &R, alloc: Global, text: &str) -> Result<()> {
-    let document: Document = toml::from_str(alloc, text)?;
+    let document: Document = read_document(alloc, text)?;
     for table in &document.table {
         let page = tell_table(rt, alloc, table).context(format_args!("table {:?}", table.name))?;
         rt.print(page)?;
