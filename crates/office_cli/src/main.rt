@@ -112,34 +112,53 @@ fn words_of<R: Env + Alloc<A = Global>>(rt: &R) -> io::Result<Vec<String>> {
     Ok(words)
 }
 
-// What the keeper of bills needs. The keeper opens its file at its first call.
+// What a command needs of the system.
+#[derive(Drop)]
+struct Begun {
+    // Held while the command works.
+    numbers: Option<[File; 3]>,
+    words: Vec<String>,
+    disk: FileDisk<File>,
+    // What the keeper of bills needs, which opens its file at its first call.
+    host: HostRuntime,
+    bills: String,
+}
+
+// Makes what a command needs.
 //
 // # Errors
 //
-// Memory ran out.
-fn place_of_bills(rt: &HostRuntime) -> io::Result<(HostRuntime, String)> {
-    let path = String::from_str(rt.alloc(), "office-data/bills.db")?;
-    Ok((rt.clone()?, path))
+// A word is no text, or memory ran out.
+fn begin(rt: &HostRuntime) -> io::Result<Begun> {
+    let numbers = hold_numbers(rt);
+    let words = words_of(rt)?;
+    let disk = open_disk(rt, &words, numbers.is_some())?;
+    let bills = String::from_str(rt.alloc(), "office-data/bills.db")?;
+    Ok(Begun {
+        numbers,
+        words,
+        disk,
+        host: rt.clone()?,
+        bills,
+    })
 }
 
 fn main(rt: HostRuntime) -> ExitCode {
-    let held = hold_numbers(&rt);
     let mut out = WriterReplies::new(rt.stdout(), rt.stderr());
-    let words = match words_of(&rt) {
-        Ok(words) => words,
+    let begun = match begin(&rt) {
+        Ok(begun) => begun,
         Err(e) => return ExitCode::from(refuse_words(&mut out, e.kind())),
     };
-    let disk = match open_disk(&rt, &words, held.is_some()) {
-        Ok(disk) => disk,
-        Err(e) => return ExitCode::from(refuse_words(&mut out, e.kind())),
-    };
+    let Begun {
+        numbers: _numbers,
+        words,
+        disk,
+        host,
+        bills,
+    } = begun;
     let mut input = ReaderSource::new(rt.stdin());
     let mut port = TcpPort::new(&rt);
-    let (host, path) = match place_of_bills(&rt) {
-        Ok(place) => place,
-        Err(e) => return ExitCode::from(refuse_words(&mut out, e.kind())),
-    };
-    let mut keeper = SqliteKeeper::at(host, path);
+    let mut keeper = SqliteKeeper::at(host, bills);
     let end = office(
         &rt,
         rt.alloc(),
